@@ -1,0 +1,5 @@
+pub mod Ring
+pub mod Field
+pub mod Coeffs
+pub mod Powers
+pub mod Twisted

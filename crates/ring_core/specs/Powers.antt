@@ -1,0 +1,13 @@
+-- Powers, and values of polynomials, in a ring.
+use Rattle.std.specs.Prelude.{ℕ, zero, suc, List, length}
+use Rattle.ring_core.specs.Ring.{RingOps}
+use Rattle.ring_core.specs.Coeffs.{coeff, sum_below}
+
+-- `a` multiplied `k` times, one for `k = 0`.
+abbrev pub power_of : {E : Type 0} → RingOps E → E → ℕ → E
+power_of r a zero = r.one
+power_of r a (suc k) = r.mul (power_of r a k) a
+
+-- The sum of `coeffs[i] * a^i`.
+abbrev pub value_at : {E : Type 0} → RingOps E → List E → E → E
+value_at r coeffs a = sum_below r (length coeffs) (λ i. r.mul (coeff r coeffs i) (power_of r a i))
