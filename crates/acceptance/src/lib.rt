@@ -1,0 +1,14 @@
+//! Tests that cross crates: whole runs over sources and sinks in memory.
+#![tactic(auto)]
+
+#[cfg(test)]
+mod outcome;
+
+#[cfg(test)]
+mod first_scripts;
+
+#[cfg(test)]
+mod outside;
+
+#[cfg(test)]
+mod plain_count;

@@ -1,0 +1,4 @@
+pub mod StatusTexts
+pub mod Meaning
+pub mod Answer
+pub mod Run
