@@ -1,4 +1,2 @@
 pub mod StatusTexts
-pub mod Meaning
-pub mod Answer
 pub mod Run

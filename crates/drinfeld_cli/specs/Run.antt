@@ -1,8 +1,8 @@
 -- What a status of `run` says of what came in and what was written, by cases.
 use Rattle.std.specs.Prelude.{◌≡◌, ℕ, ◌<◌, ◌≤◌, ◌⊎◌, Option, List, take, length, IfSome}
 use Rattle.text_io.specs.Bytes.{with_back, AtEnd}
-use Rattle.drinfeld_cli.specs.Answer.{IsOutput}
-use Rattle.drinfeld_cli.specs.declared.TheConstants.{SCRIPT_LIMIT}
+use Rattle.first_answer.specs.Answer.{IsOutput}
+use Rattle.drinfeld_cli.specs.declared.program.TheConstants.{SCRIPT_LIMIT}
 use Rattle.drinfeld_cli.specs.declared.status.SizeKind.TheVariants.{Script}
 use Rattle.drinfeld_cli.specs.declared.status.Status.{Status}
 use Rattle.drinfeld_cli.specs.declared.status.Status.TheVariants.{Done, Words, Size, NotBuilt, NoMemory, ReadFault, WriteFault}

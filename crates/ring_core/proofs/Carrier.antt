@@ -59,6 +59,13 @@ module _ {M : Type 0} (R : RingOn M) where
   pub neg_only : (a b : M) → R.add a b ≡ R.zero → b ≡ R.neg a
   neg_only a b e = add_cancel a b (R.neg a) (e ∙ sym (R.add_neg a))
 
+  -- zero is the only element that is its own double
+  pub zero_only : (a : M) → R.add a a ≡ a → a ≡ R.zero
+  zero_only a e = add_cancel a a R.zero (e ∙ sym (add_zero a))
+
+  pub neg_zero : R.neg R.zero ≡ R.zero
+  neg_zero = sym (neg_only R.zero R.zero (R.zero_add R.zero))
+
   pub neg_neg : (a : M) → R.neg (R.neg a) ≡ a
   neg_neg a = sym (neg_only (R.neg a) a (neg_add a))
 

@@ -1,1 +1,11 @@
 pub mod Carrier
+pub mod Series
+pub mod Values
+pub mod Coefficients
+pub mod Twist
+pub mod ListRing
+pub mod PowerLaws
+pub mod Monomial
+pub mod Degrees
+pub mod Central
+pub mod RowSteps

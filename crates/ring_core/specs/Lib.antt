@@ -3,3 +3,5 @@ pub mod Field
 pub mod Coeffs
 pub mod Powers
 pub mod Twisted
+pub mod Monomial
+pub mod Degrees

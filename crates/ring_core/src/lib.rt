@@ -3,9 +3,13 @@
 #![tactic(auto)]
 
 mod field;
+pub mod lists;
 mod memory;
+mod powers;
 mod ring;
+pub mod rows;
 
 pub use field::{B, E, Field, FrobField};
 pub use memory::NoMemory;
+pub use powers::{eval, power};
 pub use ring::{CommRing, Ring};

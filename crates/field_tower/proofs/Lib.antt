@@ -1,0 +1,9 @@
+pub mod Rows
+pub mod Writes
+pub mod Stored
+pub mod PowerSteps
+pub mod Letter
+pub mod CodeDigits
+pub mod BaseValues
+pub mod BaseTables
+pub mod TopValues

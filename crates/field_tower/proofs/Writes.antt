@@ -1,0 +1,31 @@
+-- A list written place by place.
+use Rattle.std.proofs.Common.{◌≡◌, ◌≢◌, ℕ, zero, suc, ◌<◌, true, List, [], ◌∷◌, length, slice_set, get_or-set_other, get_or-set_same, ⊎_elim, sym, refl, ap, ap₂, ◌∙◌, arith}
+use Rattle.std.proofs.lemmas.Bool.{and_parts, and_from, cases_eq}
+use Rattle.ring_core.specs.Ring.{RingOps, IsElem}
+use Rattle.ring_core.specs.Coeffs.{coeff, are_elems}
+use Rattle.residue_field.specs.Residue.{shifted, times_x}
+
+module _ {E : Type 0} (r : RingOps E) where
+  pub elems-set : (u : List E) (i : ℕ) (v : E) → are_elems r u ≡ true → IsElem r v → are_elems r (slice_set u i v) ≡ true
+  elems-set [] i v e h = refl
+  elems-set (x ∷ xs) zero v e h = and_from _ _ h (and_parts _ _ e).1
+  elems-set (x ∷ xs) (suc i) v e h = and_from _ _ (and_parts _ _ e).0 (elems-set xs i v (and_parts _ _ e).1 h)
+
+  -- what a write at `i` leaves at `j`
+  pub written : (u : List E) (i : ℕ) (v : E) (g : ℕ → E) (j : ℕ) → i < length u → v ≡ g i → (j ≢ i → coeff r u j ≡ g j) → coeff r (slice_set u i v) j ≡ g j
+  written u i v g j l e other =
+      ⊎_elim
+      (λ same. ap (coeff r (slice_set u i v)) same ∙ get_or-set_same u i v r.zero l ∙ e ∙ ap g (sym same))
+      (λ differ. get_or-set_other u i j v r.zero differ ∙ other differ)
+      (cases_eq j i)
+
+  pub unwritten : (u : List E) (i : ℕ) (v : E) (j : ℕ) {x : E} → j ≢ i → coeff r u j ≡ x → coeff r (slice_set u i v) j ≡ x
+  unwritten u i v j differ e = get_or-set_other u i j v r.zero differ ∙ e
+
+  pub shifted_same : (v w : ℕ → E) (i : ℕ) → ((j : ℕ) → j < i → v j ≡ w j) → shifted r v i ≡ shifted r w i
+  shifted_same v w zero e = refl
+  shifted_same v w (suc i) e = e i (omega arith)
+
+  pub times-x_same : (n : ℕ) (f v w : ℕ → E) (i : ℕ) → i < suc n → ((j : ℕ) → j < suc n → v j ≡ w j) → times_x r n f v i ≡ times_x r n f w i
+  times-x_same n f v w i l e =
+      ap₂ r.add (shifted_same v w i (λ j (k : j < i). e j (omega arith))) (ap (λ t. r.neg (r.mul t (f i))) (e n (omega arith)))

@@ -1,0 +1,78 @@
+use Rattle.std.proofs.Common.{◌≡◌, suc, ◌-◌, ◌^◌, ◌≤◌, sym, ap, subst, ◌∙◌, arith}
+use Rattle.residue_field.specs.Tables.{IsRow, IsTable}
+use Rattle.residue_field.specs.Prime.{prime_ops}
+use Rattle.residue_field.specs.Base.{base_ops}
+use Rattle.field_tower.specs.Places.{IsModulus}
+use Rattle.field_tower.specs.Pairs.{HasNoZero, IsZeroAt}
+use Rattle.field_tower.proofs.BaseTables.{modulus_of, moved, zero_pair, no_pair}
+use Rattle.field_tower.proofs.base.make_reduced.Goals as goal
+
+pub product_table-requires-clause-monic : goal.product_table-requires-clause-monic
+product_table-requires-clause-monic c =
+    let p = c.args.prime.p in
+    let small = subst (λ n. n ≤ _) c.requires.count c.requires.small in
+    subst (IsModulus (prime_ops p)) (sym c.deref.ensures.value)
+    (modulus_of p c.args.s c.args.modulus.items c.args.prime.listed c.requires.degree small c.requires.members c.requires.elems c.requires.monic)
+
+pub sum_table-requires-clause-monic : goal.sum_table-requires-clause-monic
+sum_table-requires-clause-monic c =
+    let p = c.args.prime.p in
+    let small = subst (λ n. n ≤ _) c.requires.count c.requires.small in
+    subst (IsModulus (prime_ops p)) (sym c.deref-3.ensures.value)
+    (modulus_of p c.args.s c.args.modulus.items c.args.prime.listed c.requires.degree small c.requires.members c.requires.elems c.requires.monic)
+
+pub negative_row-requires-clause-monic : goal.negative_row-requires-clause-monic
+negative_row-requires-clause-monic c =
+    let p = c.args.prime.p in
+    let small = subst (λ n. n ≤ _) c.requires.count c.requires.small in
+    subst (IsModulus (prime_ops p)) (sym c.deref-4.ensures.value)
+    (modulus_of p c.args.s c.args.modulus.items c.args.prime.listed c.requires.degree small c.requires.members c.requires.elems c.requires.monic)
+
+pub returns-in-Some : goal.returns-in-Some
+returns-in-Some c =
+    let p = c.args.prime.p in
+    let s = c.args.s in
+    let q = c.args.q in
+    let modulus = c.args.modulus.items in
+    let products = c.in-Ok.products.items in
+    let positive = c.requires.degree in
+    let degree : s ≡ suc (s - 1) = omega arith in
+    let table = moved (λ n u. IsTable q (base_ops p n u).mul products) _ modulus s c.deref.ensures.value c.requires.members c.in-Ok.ensures in
+    zero_pair p (s - 1) modulus q (c.requires.count ∙ ap (λ m. p ^ m) degree) products table _ _
+    (subst (λ l. IsZeroAt q l c.in-Some.a c.in-Some.b) c.deref-2.ensures.value c.in-Some.ensures)
+
+pub invariant_of-result : goal.invariant_of-result
+invariant_of-result c =
+    let p = c.args.prime.p in
+    let s = c.args.s in
+    let q = c.args.q in
+    let modulus = c.args.modulus.items in
+    let products = c.in-Ok.products.items in
+    let sums = c.in-Ok-sum_table.sums.items in
+    let negatives = c.in-Ok-negative_row.negatives.items in
+    let positive = c.requires.degree in
+    let degree : s ≡ suc (s - 1) = omega arith in
+    let table = moved (λ n u. IsTable q (base_ops p n u).mul products) _ modulus s c.deref.ensures.value c.requires.members c.in-Ok.ensures in
+    let none = subst (HasNoZero q) c.deref-2.ensures.value c.in_default-find_zero.ensures in (
+      (
+        c.args.prime.listed,
+        positive,
+        c.requires.elems,
+        c.requires.members,
+        c.requires.monic,
+        no_pair p (s - 1) modulus q (c.requires.count ∙ ap (λ m. p ^ m) degree) products table none,
+      ),
+      (
+        c.requires.count,
+        (
+          c.requires.small,
+          (
+            moved (λ n u. IsTable q (base_ops p n u).add sums) _ modulus s c.deref-3.ensures.value c.requires.members c.in-Ok-sum_table.ensures,
+            (
+              table,
+              (moved (λ n u. IsRow q (base_ops p n u).neg negatives) _ modulus s c.deref-4.ensures.value c.requires.members c.in-Ok-negative_row.ensures, tt),
+            ),
+          ),
+        ),
+      ),
+    )

@@ -1,0 +1,10 @@
+use Rattle.std.proofs.Common.{◌≡◌, ◌^◌}
+use Rattle.ring_core.specs.Ring.{IsElem}
+use Rattle.ring_core.specs.Powers.{power_of}
+use Rattle.field_tower.specs.Places.{stored_ops}
+use Rattle.field_tower.proofs.places.power_by_size.Given as goal
+
+abbrev pub invariant-loop-j : goal.invariant-loop-j
+invariant-loop-j g l =
+    let ring = stored_ops (g.F.Field.ops l.field) l.modulus in
+    record { elem : IsElem ring l.result; value : l.result ≡ power_of ring l.fn.a (l.q ^ l._j) }

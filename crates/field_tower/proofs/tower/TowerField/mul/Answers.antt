@@ -1,0 +1,16 @@
+use Rattle.std.proofs.Common.{sym, ap, subst, ◌∙◌}
+use Rattle.ring_core.specs.Ring.{IsElem}
+use Rattle.field_tower.proofs.TopValues.{ops-inside}
+use Rattle.field_tower.proofs.tower.TowerField.mul.Goals as goal
+
+pub mul-requires-clause-left : goal.mul-requires-clause-left
+mul-requires-clause-left c =
+    subst (λ r. IsElem r c.args.a) (sym (ops-inside _ c.args.self.now c.self.view_is _ c.deref.ensures.value)) c.requires.left
+
+pub mul-requires-clause-right : goal.mul-requires-clause-right
+mul-requires-clause-right c =
+    subst (λ r. IsElem r c.args.b) (sym (ops-inside _ c.args.self.now c.self.view_is _ c.deref.ensures.value)) c.requires.right
+
+pub returns : goal.returns
+returns c =
+    c.mul.ensures.value ∙ ap (λ r. r.mul c.args.a c.args.b) (ops-inside _ c.args.self.now c.self.view_is _ c.deref.ensures.value)

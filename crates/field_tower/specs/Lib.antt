@@ -1,0 +1,4 @@
+pub mod Places
+pub mod Pairs
+pub mod MakeBase
+pub mod MakeTop

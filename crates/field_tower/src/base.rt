@@ -1,0 +1,218 @@
+ghost use Rattle.std.specs.Prelude.{◌≡◌, ◌-◌, ◌+◌, ◌<◌, ◌≤◌, ◌^◌, IfOk, MatchResult, length, slice_index, true};
+ghost use Rattle.ring_core.specs.Ring.{IsElem};
+ghost use Rattle.ring_core.specs.Coeffs.{are_elems};
+ghost use Rattle.ring_core.specs.Powers.{power_of};
+ghost use Rattle.residue_field.specs.Tables.{IsRow, IsTable};
+ghost use Rattle.residue_field.specs.Prime.{is_listed, prime_ops};
+ghost use Rattle.residue_field.specs.Base.{Base, IsBase, base_ops, base_code, ops_of, size_of, inverse_of};
+ghost use Rattle.residue_field.proofs.BaseLaws.{base_field};
+ghost use Rattle.field_tower.specs.declared.size.TheConstants.{CODES};
+ghost use Rattle.field_tower.specs.MakeBase.{MakesBase, IsBaseOf, IsFaultOf, reduced as reduced_list};
+
+use super::fault::BaseFault;
+use super::prime::Prime;
+use super::size::{is_listed, size};
+use super::tables::{find_zero, negative_row, product_table, sum_table};
+use residue_field::Code;
+use ring_core::{Field, NoMemory};
+use std::alloc::Global;
+use std::marker::Model;
+
+/// The field of `q = p^s` elements. Its elements are the codes below `q`, whose digits in base `p` are
+/// the coefficients of a residue, lowest first.
+#[derive(Drop)]
+pub struct BaseField {
+    p: u32,
+    s: u32,
+    q: usize,
+    modulus: Vec<Code>,
+    sums: Vec<Code>,
+    products: Vec<Code>,
+    negatives: Vec<Code>,
+    ghost is_base: { IsBase p s modulus.items },
+    ghost count: { q ≡ p ^ s },
+    ghost small: { q ≤ CODES },
+    ghost sum_table: { IsTable q (base_ops p (s - 1) modulus.items).add sums.items },
+    ghost product_table: { IsTable q (base_ops p (s - 1) modulus.items).mul products.items },
+    ghost negative_row: { IsRow q (base_ops p (s - 1) modulus.items).neg negatives.items },
+}
+
+impl Model for BaseField {
+    ghost Value = { Base };
+
+    ghost coded = { base_code };
+
+    ghost view = { λ f. record { p = f.p; s = f.s; modulus = f.modulus.items; is_base = f.is_base } };
+}
+
+/// The members of `modulus` modulo `p`.
+fn reduced(alloc: Global, p: u32, modulus: &[u32]) -> Result<Vec<Code>, NoMemory>
+    requires positive { 0 < p }
+    requires small { p ≤ CODES }
+    ensures { IfOk result (λ list. list.items ≡ reduced_list p modulus.now) }
+{
+    let mut list = Vec::new(alloc);
+    for c in modulus {
+        list.push((*c % p) as Code)?;
+    }
+    Ok(list)
+}
+
+impl BaseField {
+    /// The field of the residues modulo `modulus`, whose `s + 1` numbers are taken modulo `p`, lowest
+    /// coefficient first. The refusals come in this order: `TooLarge` where `p` is no listed prime, `s`
+    /// is 0 or `p^s` is more than `CODES`; `BadModulus` where the list hasn't `s + 1` members or the
+    /// last isn't 1 modulo `p`; `ZeroDivisors` where two nonzero codes multiply to zero, with such a
+    /// pair; and `NoMemory` where memory is refused.
+    pub fn make(alloc: Global, p: u32, s: u32, modulus: &[u32]) -> Result<BaseField, BaseFault>
+        ensures { MakesBase p s modulus.now result }
+    {
+        if !is_listed(p) || s == 0 {
+            return Err(BaseFault::TooLarge);
+        }
+        let Some(q) = size(p as usize, s as usize) else {
+            return Err(BaseFault::TooLarge);
+        };
+        let n = s as usize;
+        if modulus.len() != n + 1 || modulus[n] % p != 1 {
+            return Err(BaseFault::BadModulus);
+        }
+        let Ok(modulus) = reduced(alloc, p, modulus) else {
+            return Err(BaseFault::NoMemory);
+        };
+        make_reduced(alloc, Prime { p }, s, q, modulus)
+    }
+
+    /// The prime that the field stands on.
+    pub fn p(&self) -> u32
+        ensures { result ≡ self.now.p }
+    {
+        self.p
+    }
+
+    /// The degree over the numbers modulo the prime.
+    pub fn s(&self) -> u32
+        ensures { result ≡ self.now.s }
+    {
+        self.s
+    }
+
+    /// How many elements the field has.
+    pub fn q(&self) -> u32
+        ensures value { result ≡ size_of self.now }
+        ensures small { result ≤ CODES }
+    {
+        self.q as u32
+    }
+
+    fn product(&self, a: Code, b: Code) -> Code
+        requires left { IsElem (ops_of self.now) a }
+        requires right { IsElem (ops_of self.now) b }
+        ensures { result ≡ (ops_of self.now).mul a b }
+    {
+        self.products[a as usize * self.q + b as usize]
+    }
+
+    /// `a` multiplied `k` times, one for `k = 0`.
+    fn power(&self, a: Code, k: usize) -> Code
+        requires { IsElem (ops_of self.now) a }
+        ensures value { result ≡ power_of (ops_of self.now) a k }
+        ensures elem { IsElem (ops_of self.now) result }
+    {
+        if k == 0 {
+            return 1;
+        }
+        let half = self.power(a, k / 2);
+        let square = self.product(half, half);
+        if k % 2 == 0 {
+            square
+        } else {
+            self.product(square, a)
+        }
+    }
+}
+
+/// What `make` answers once the modulus is monic of degree `s` and reduced.
+fn make_reduced(
+    alloc: Global,
+    prime: Prime,
+    s: u32,
+    q: usize,
+    modulus: Vec<Code>,
+) -> Result<BaseField, BaseFault>
+    requires degree { 0 < s }
+    requires count { q ≡ prime.p ^ s }
+    requires small { q ≤ CODES }
+    requires members { length modulus.items ≡ s + 1 }
+    requires elems { are_elems (prime_ops prime.p) modulus.items ≡ true }
+    requires monic { slice_index modulus.items s ≡ 1 }
+    ensures { MatchResult result (IsBaseOf prime.p s modulus.items) (IsFaultOf prime.p s modulus.items) }
+{
+    let Ok(products) = product_table(alloc, &prime, &modulus, q) else {
+        return Err(BaseFault::NoMemory);
+    };
+    if let Some((a, b)) = find_zero(q, &products) {
+        return Err(BaseFault::ZeroDivisors { a, b });
+    }
+    let Ok(sums) = sum_table(alloc, &prime, &modulus, q) else {
+        return Err(BaseFault::NoMemory);
+    };
+    let Ok(negatives) = negative_row(alloc, &prime, &modulus, q) else {
+        return Err(BaseFault::NoMemory);
+    };
+    Ok(BaseField {
+        p: prime.p,
+        s,
+        q,
+        modulus,
+        sums,
+        products,
+        negatives,
+    })
+}
+
+impl Field for BaseField {
+    type Elem = Code;
+
+    ghost ops = { ops_of };
+
+    ghost inv_of = { inverse_of };
+
+    ghost laws = { base_field };
+
+    fn is_elem(&self, a: Code) -> bool {
+        (a as usize) < self.q
+    }
+
+    fn zero(&self) -> Code {
+        0
+    }
+
+    fn one(&self) -> Code {
+        1
+    }
+
+    fn add(&self, a: Code, b: Code) -> Code {
+        self.sums[a as usize * self.q + b as usize]
+    }
+
+    fn neg(&self, a: Code) -> Code {
+        self.negatives[a as usize]
+    }
+
+    fn mul(&self, a: Code, b: Code) -> Code {
+        self.product(a, b)
+    }
+
+    fn inv(&self, a: Code) -> Option<Code> {
+        if a == 0 {
+            None
+        } else {
+            Some(self.power(a, self.q - 2))
+        }
+    }
+
+    fn equal(&self, a: Code, b: Code) -> bool {
+        a == b
+    }
+}

@@ -1,0 +1,25 @@
+//! Finite fields in two layers. `BaseField` is the field of `q = p^s` elements, the residues modulo a
+//! polynomial over the numbers modulo a prime; `Tower` is the field of the residues modulo a
+//! polynomial over a base field, with its Frobenius. Both are accepted exactly where no two nonzero
+//! residues multiply to zero.
+#![tactic(auto)]
+
+mod base;
+mod codes;
+mod fault;
+mod places;
+mod prime;
+mod residues;
+mod size;
+mod tables;
+mod tower;
+
+pub use base::BaseField;
+pub use fault::{BaseFault, TowerFault};
+pub use residue_field::{Code, TopElem, WIDTH};
+pub use residues::multiply;
+pub use size::CODES;
+pub use tower::{Tower, TowerRefused};
+
+#[cfg(test)]
+mod tests;

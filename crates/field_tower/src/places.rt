@@ -1,0 +1,217 @@
+ghost use Rattle.std.specs.Prelude.{◌≡◌, ℕ, ◌-◌, ◌*◌, ◌^◌, ◌≤◌, ◌<◌, length, drop, cond, nat_eq, true};
+ghost use Rattle.ring_core.specs.Ring.{IsElem};
+ghost use Rattle.ring_core.specs.Coeffs.{coeff, are_elems, same_lists};
+ghost use Rattle.ring_core.specs.Powers.{power_of};
+ghost use Rattle.residue_field.specs.declared.TheConstants.{WIDTH};
+ghost use Rattle.residue_field.specs.Residue.{constant_at, residue_letter};
+ghost use Rattle.residue_field.specs.TopElem.{are_zeros, top_places};
+ghost use Rattle.field_tower.specs.Places.{IsModulus, IsStored, stored, stored_ops};
+
+use super::residues::multiply;
+use residue_field::{Code, TopElem, WIDTH};
+use ring_core::Field;
+use ring_core::lists::{all_elems, coeff_at, equal_lists};
+
+/// Whether each member of `list` is zero.
+fn are_zero<F: Field<Elem = Code>>(field: &F, list: &[Code]) -> bool
+    requires { are_elems (F.ops field.now) list.now ≡ true }
+    ensures { result ≡ are_zeros (F.ops field.now) list.now }
+{
+    for i in 0..list.len() {
+        if !field.equal(coeff_at(field, list, i), field.zero()) {
+            return false;
+        }
+    }
+    true
+}
+
+/// Whether `a` has elements of `field` at its first `n` places and zero past them.
+pub(crate) fn is_residue<F: Field<Elem = Code>>(field: &F, n: usize, a: TopElem) -> bool
+    requires positive { 0 < n }
+    requires room { n ≤ WIDTH }
+    ensures { result ≡ (top_places (F.ops field.now) (n - 1)).is_elem a }
+{
+    all_elems(field, &a.0) && are_zero(field, &a.0[n..])
+}
+
+/// Whether `a` and `b` are equal, place by place.
+pub(crate) fn equal<F: Field<Elem = Code>>(field: &F, a: TopElem, b: TopElem) -> bool
+    requires left { are_elems (F.ops field.now) a.0 ≡ true }
+    requires right { are_elems (F.ops field.now) b.0 ≡ true }
+    ensures { result ≡ same_lists (F.ops field.now) a.0 b.0 }
+{
+    equal_lists(field, &a.0, &b.0)
+}
+
+/// Zero at each place.
+fn zeros<F: Field<Elem = Code>>(field: &F) -> [Code; WIDTH]
+    ensures values { (i : ℕ) → coeff (F.ops field.now) result i ≡ (F.ops field.now).zero }
+    ensures elems { are_elems (F.ops field.now) result ≡ true }
+{
+    [field.zero(); WIDTH]
+}
+
+/// The residue of the constant `c`, modulo a polynomial of any degree.
+pub(crate) fn constant<F: Field<Elem = Code>>(field: &F, c: Code) -> TopElem
+    ensures { (n : ℕ) → result ≡ stored (F.ops field.now) n (constant_at (F.ops field.now) c) }
+{
+    let mut places = zeros(field);
+    places[0] = c;
+    TopElem(places)
+}
+
+/// Whether the residue `a` is zero.
+pub(crate) fn is_zero<F: Field<Elem = Code>>(field: &F, a: TopElem) -> bool
+    requires { are_elems (F.ops field.now) a.0 ≡ true }
+    ensures { (d : ℕ) → result ≡ (top_places (F.ops field.now) d).same a (stored (F.ops field.now) d (λ i. (F.ops field.now).zero)) }
+{
+    equal(field, a, constant(field, field.zero()))
+}
+
+/// The residue with the coefficients of `list`, lowest first.
+pub(crate) fn residue_of<F: Field<Elem = Code>>(field: &F, list: &[Code]) -> TopElem
+    requires elems { are_elems (F.ops field.now) list.now ≡ true }
+    requires some { 0 < length list.now }
+    requires room { length list.now ≤ WIDTH }
+    ensures { result ≡ stored (F.ops field.now) (length list.now - 1) (coeff (F.ops field.now) list.now) }
+{
+    let mut places = zeros(field);
+    for i in 0..list.len() {
+        places[i] = coeff_at(field, list, i);
+    }
+    TopElem(places)
+}
+
+/// The sum of residues modulo a polynomial of degree `n`.
+pub(crate) fn add<F: Field<Elem = Code>>(field: &F, n: usize, a: TopElem, b: TopElem) -> TopElem
+    requires positive { 0 < n }
+    requires room { n ≤ WIDTH }
+    requires left { IsStored (F.ops field.now) (n - 1) a }
+    requires right { IsStored (F.ops field.now) (n - 1) b }
+    ensures { result ≡ stored (F.ops field.now) (n - 1) (λ i. (F.ops field.now).add (coeff (F.ops field.now) a.0 i) (coeff (F.ops field.now) b.0 i)) }
+{
+    let mut places = zeros(field);
+    for i in 0..n {
+        places[i] = field.add(coeff_at(field, &a.0, i), coeff_at(field, &b.0, i));
+    }
+    TopElem(places)
+}
+
+/// The negative of a residue modulo a polynomial of degree `n`.
+pub(crate) fn neg<F: Field<Elem = Code>>(field: &F, n: usize, a: TopElem) -> TopElem
+    requires positive { 0 < n }
+    requires room { n ≤ WIDTH }
+    requires elem { IsStored (F.ops field.now) (n - 1) a }
+    ensures { result ≡ stored (F.ops field.now) (n - 1) (λ i. (F.ops field.now).neg (coeff (F.ops field.now) a.0 i)) }
+{
+    let mut places = zeros(field);
+    for i in 0..n {
+        places[i] = field.neg(coeff_at(field, &a.0, i));
+    }
+    TopElem(places)
+}
+
+/// The product of residues.
+pub(crate) fn mul<F: Field<Elem = Code>>(
+    field: &F,
+    modulus: &[Code],
+    a: TopElem,
+    b: TopElem,
+) -> TopElem
+    requires monic { IsModulus (F.ops field.now) modulus.now }
+    requires left { IsElem (stored_ops (F.ops field.now) modulus.now) a }
+    requires right { IsElem (stored_ops (F.ops field.now) modulus.now) b }
+    ensures value { result ≡ (stored_ops (F.ops field.now) modulus.now).mul a b }
+    ensures elem { IsElem (stored_ops (F.ops field.now) modulus.now) result }
+{
+    let mut places = zeros(field);
+    multiply(field, modulus, &a.0, &b.0, &mut places);
+    TopElem(places)
+}
+
+/// The residue `a` multiplied `k` times, one for `k = 0`: by squares, at most two products for each
+/// binary digit of `k`.
+pub(crate) fn power<F: Field<Elem = Code>>(
+    field: &F,
+    modulus: &[Code],
+    a: TopElem,
+    k: u32,
+) -> TopElem
+    requires monic { IsModulus (F.ops field.now) modulus.now }
+    requires elem { IsElem (stored_ops (F.ops field.now) modulus.now) a }
+    ensures value { result ≡ power_of (stored_ops (F.ops field.now) modulus.now) a k }
+    ensures elem { IsElem (stored_ops (F.ops field.now) modulus.now) result }
+{
+    if k == 0 {
+        return constant(field, field.one());
+    }
+    let half = power(field, modulus, a, k / 2);
+    let square = mul(field, modulus, half, half);
+    if k % 2 == 0 {
+        square
+    } else {
+        mul(field, modulus, square, a)
+    }
+}
+
+/// The power of the residue `a` by `q^i`.
+pub(crate) fn power_by_size<F: Field<Elem = Code>>(
+    field: &F,
+    modulus: &[Code],
+    a: TopElem,
+    q: u32,
+    i: usize,
+) -> TopElem
+    requires monic { IsModulus (F.ops field.now) modulus.now }
+    requires elem { IsElem (stored_ops (F.ops field.now) modulus.now) a }
+    ensures { result ≡ power_of (stored_ops (F.ops field.now) modulus.now) a (q ^ i) }
+{
+    let mut result = a;
+    for _j in 0..i {
+        result = power(field, modulus, result, q);
+    }
+    result
+}
+
+/// The power of the residue `a` by `q^n - 2`, in base `q`: each digit of the exponent is `q - 1`, but
+/// the lowest is `q - 2`.
+pub(crate) fn power_less_two<F: Field<Elem = Code>>(
+    field: &F,
+    modulus: &[Code],
+    a: TopElem,
+    q: u32,
+    n: usize,
+) -> TopElem
+    requires monic { IsModulus (F.ops field.now) modulus.now }
+    requires size { 2 ≤ q }
+    requires positive { 0 < n }
+    requires elem { IsElem (stored_ops (F.ops field.now) modulus.now) a }
+    ensures { result ≡ power_of (stored_ops (F.ops field.now) modulus.now) a (q ^ n - 2) }
+{
+    let digit = power(field, modulus, a, q - 1);
+    let mut result = constant(field, field.one());
+    for _i in 0..n - 1 {
+        result = mul(field, modulus, power(field, modulus, result, q), digit);
+    }
+    mul(
+        field,
+        modulus,
+        power(field, modulus, result, q),
+        power(field, modulus, a, q - 2),
+    )
+}
+
+/// The residue of the letter. Modulo a polynomial of degree 1 it is minus the constant of the modulus.
+pub(crate) fn letter<F: Field<Elem = Code>>(field: &F, modulus: &[Code]) -> TopElem
+    requires { IsModulus (F.ops field.now) modulus.now }
+    ensures { let r = F.ops field.now in
+        result ≡ residue_letter r (length modulus.now - 2) (coeff r modulus.now) (top_places r (length modulus.now - 2)) }
+{
+    let mut places = zeros(field);
+    if modulus.len() == 2 {
+        places[0] = field.neg(coeff_at(field, modulus, 0));
+    } else {
+        places[1] = field.one();
+    }
+    TopElem(places)
+}

@@ -1,0 +1,245 @@
+ghost use Rattle.std.specs.Prelude.{◌≡◌, ◌-◌, ◌+◌, ◌<◌, ◌≤◌, ◌^◌, MatchOption, length, true};
+ghost use Rattle.ring_core.specs.Ring.{IsElem};
+ghost use Rattle.ring_core.specs.Coeffs.{are_elems};
+ghost use Rattle.finite_ring.specs.Finite.{HasNoPair};
+ghost use Rattle.residue_field.specs.Base.{ops_of, size_of};
+ghost use Rattle.residue_field.specs.Top.{Top, IsTop, top_ops, top_code, ops_of_top, inverse_of_top, frob_of_top, letter_of};
+ghost use Rattle.residue_field.proofs.TopLaws.{top_field};
+ghost use Rattle.residue_field.proofs.TopFrob.{top_frob_field};
+ghost use Rattle.field_tower.specs.declared.size.TheConstants.{CODES};
+ghost use Rattle.residue_field.specs.declared.TheConstants.{WIDTH};
+ghost use Rattle.field_tower.specs.Places.{IsModulus, residue_at};
+ghost use Rattle.field_tower.specs.Pairs.{IsPair, PassesAt};
+
+use super::base::BaseField;
+use super::codes::digits;
+use super::fault::TowerFault;
+use super::places;
+use super::size::size;
+use residue_field::{Code, TopElem, WIDTH};
+use ring_core::{Field, FrobField};
+use std::alloc::Global;
+use std::marker::Model;
+
+/// The field of the residues modulo a polynomial over a base field. Its elements have their
+/// coefficients, lowest first, at the places below the degree, and 0 past them.
+#[derive(Drop)]
+pub struct Tower {
+    base: BaseField,
+    n: u32,
+    modulus: Vec<Code>,
+    ghost is_top: { IsTop base n modulus.items },
+}
+
+impl Model for Tower {
+    ghost Value = { Top };
+
+    ghost coded = { top_code };
+
+    ghost view = { λ t. record { base = t.base; n = t.n; modulus = t.modulus.items; is_top = t.is_top } };
+}
+
+/// A refusal to make a top field, with the base field that was handed in.
+#[derive(Drop)]
+pub struct TowerRefused {
+    /// The base field, unchanged.
+    pub base: BaseField,
+    /// Why the data are no top field.
+    pub why: TowerFault,
+}
+
+/// The residues of numbers `m / count` and `m % count`, where they aren't zero and their product is.
+fn pair_at(
+    base: &BaseField,
+    n: usize,
+    count: usize,
+    modulus: &[Code],
+    m: usize,
+) -> Option<(TopElem, TopElem)>
+    requires monic { IsModulus (ops_of base.now) modulus.now }
+    requires degree { length modulus.now ≡ n + 1 }
+    requires count { count ≡ size_of base.now ^ n }
+    ensures { MatchOption result (PassesAt (top_ops base.now (n - 1) modulus.now) (residue_at base.now n) count m) (λ pair. IsPair (top_ops base.now (n - 1) modulus.now) pair.0 pair.1) }
+{
+    let q = base.q() as usize;
+    let a = digits(q, n, m / count);
+    let b = digits(q, n, m % count);
+    if places::is_zero(base, a) {
+        return None;
+    }
+    if places::is_zero(base, b) {
+        return None;
+    }
+    let product = places::mul(base, modulus, a, b);
+    if places::is_zero(base, product) {
+        Some((a, b))
+    } else {
+        None
+    }
+}
+
+/// Two nonzero residues modulo `modulus` of degree `n` whose product is zero, None where there are
+/// none; there are `count` residues.
+fn find_pair(
+    base: &BaseField,
+    n: usize,
+    count: usize,
+    modulus: &[Code],
+) -> Option<(TopElem, TopElem)>
+    requires monic { IsModulus (ops_of base.now) modulus.now }
+    requires degree { length modulus.now ≡ n + 1 }
+    requires count { count ≡ size_of base.now ^ n }
+    requires small { count ≤ CODES }
+    ensures { MatchOption result (HasNoPair (top_ops base.now (n - 1) modulus.now)) (λ pair. IsPair (top_ops base.now (n - 1) modulus.now) pair.0 pair.1) }
+{
+    for m in 0..count * count {
+        if let Some(pair) = pair_at(base, n, count, modulus, m) {
+            return Some(pair);
+        }
+    }
+    None
+}
+
+impl Tower {
+    ghost use Rattle.field_tower.specs.MakeTop.{MakesTop};
+
+    /// The field of the residues modulo `modulus`, whose `n + 1` members are elements of `base`, lowest
+    /// coefficient first. The refusals come in this order: `TooLarge` where `n` is 0 or more than
+    /// `WIDTH`; `BadModulus` where the list hasn't `n + 1` members or the last isn't 1; `ZeroDivisors`
+    /// where two nonzero residues multiply to zero, with such a pair; and `NoMemory` where memory is
+    /// refused. Each hands the base field back unchanged. Every pair of residues is tried, so there may
+    /// be at most `CODES` residues.
+    pub fn make(
+        alloc: Global,
+        base: BaseField,
+        n: u32,
+        modulus: &[Code],
+    ) -> Result<Tower, TowerRefused>
+        requires members { are_elems (ops_of base) modulus.now ≡ true }
+        requires few { n ≤ WIDTH → size_of base ^ n ≤ CODES }
+        ensures { MakesTop base n modulus.now result }
+    {
+        let degree = n as usize;
+        if degree == 0 || degree > WIDTH {
+            return Err(TowerRefused {
+                base,
+                why: TowerFault::TooLarge,
+            });
+        }
+        if modulus.len() != degree + 1 || modulus[degree] != base.one() {
+            return Err(TowerRefused {
+                base,
+                why: TowerFault::BadModulus,
+            });
+        }
+        let Some(count) = size(base.q() as usize, degree) else {
+            unreachable!()
+        };
+        if let Some((a, b)) = find_pair(&base, degree, count, modulus) {
+            return Err(TowerRefused {
+                base,
+                why: TowerFault::ZeroDivisors { a, b },
+            });
+        }
+        let Ok(modulus) = Vec::from_slice(alloc, modulus) else {
+            return Err(TowerRefused {
+                base,
+                why: TowerFault::NoMemory,
+            });
+        };
+        Ok(Tower { base, n, modulus })
+    }
+
+    /// The residue of the polynomial `z`.
+    pub fn letter(&self) -> TopElem
+        ensures { result ≡ letter_of self.now }
+    {
+        places::letter(&self.base, &self.modulus)
+    }
+}
+
+impl Field for Tower {
+    type Elem = TopElem;
+
+    ghost ops = { ops_of_top };
+
+    ghost inv_of = { inverse_of_top };
+
+    ghost laws = { top_field };
+
+    fn is_elem(&self, a: TopElem) -> bool {
+        places::is_residue(&self.base, self.n as usize, a)
+    }
+
+    fn zero(&self) -> TopElem {
+        places::constant(&self.base, self.base.zero())
+    }
+
+    fn one(&self) -> TopElem {
+        places::constant(&self.base, self.base.one())
+    }
+
+    fn add(&self, a: TopElem, b: TopElem) -> TopElem {
+        places::add(&self.base, self.n as usize, a, b)
+    }
+
+    fn neg(&self, a: TopElem) -> TopElem {
+        places::neg(&self.base, self.n as usize, a)
+    }
+
+    fn mul(&self, a: TopElem, b: TopElem) -> TopElem {
+        places::mul(&self.base, &self.modulus, a, b)
+    }
+
+    fn inv(&self, a: TopElem) -> Option<TopElem> {
+        if places::is_zero(&self.base, a) {
+            None
+        } else {
+            Some(places::power_less_two(
+                &self.base,
+                &self.modulus,
+                a,
+                self.base.q(),
+                self.n as usize,
+            ))
+        }
+    }
+
+    fn equal(&self, a: TopElem, b: TopElem) -> bool {
+        places::equal(&self.base, a, b)
+    }
+}
+
+impl FrobField for Tower {
+    type Base = BaseField;
+
+    ghost base_of = { λ t. t.base };
+
+    ghost frob_ops = { frob_of_top };
+
+    ghost frob_laws = { top_frob_field };
+
+    fn base(&self) -> &BaseField {
+        &self.base
+    }
+
+    fn degree(&self) -> usize {
+        self.n as usize
+    }
+
+    fn embed(&self, b: Code) -> TopElem {
+        places::constant(&self.base, b)
+    }
+
+    fn frob(&self, c: TopElem, i: usize) -> TopElem {
+        places::power_by_size(&self.base, &self.modulus, c, self.base.q(), i)
+    }
+
+    fn coord(&self, c: TopElem, j: usize) -> Code {
+        c.0[j]
+    }
+
+    fn of_coords(&self, list: &[Code]) -> TopElem {
+        places::residue_of(&self.base, list)
+    }
+}

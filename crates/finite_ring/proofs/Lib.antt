@@ -1,0 +1,10 @@
+pub mod Pigeon
+pub mod Powers
+pub mod Counted
+pub mod Fermat
+pub mod Accept
+pub mod Roots
+pub mod Freshman
+pub mod FieldOf
+pub mod Frobenius
+pub mod Embedding

@@ -1,0 +1,57 @@
+-- When a finite commutative ring is a field, what its inverses are, and the powers by which fields over
+-- finite fields are told.
+use Rattle.std.specs.Prelude.{◌≡◌, ◌≢◌, ℕ, zero, suc, ◌+◌, ◌-◌, ◌^◌, ◌<◌, Option, Some, None, cond}
+use Rattle.ring_core.specs.Ring.{RingOps, IsElem}
+use Rattle.ring_core.specs.Powers.{power_of}
+
+-- No two nonzero elements multiply to zero.
+abbrev pub HasNoPair : {E : Type 0} → RingOps E → Type 0
+HasNoPair {E} r = (a b : E) → IsElem r a → IsElem r b → a ≢ r.zero → b ≢ r.zero → r.mul a b ≢ r.zero
+
+-- The inverse of `a` in a field of `count` elements: none for zero, else the power `count - 2` of `a`,
+-- since there the power `count - 1` of each nonzero element is one.
+abbrev pub inverse_by_power : {E : Type 0} → RingOps E → ℕ → E → Option E
+inverse_by_power r count a = cond (r.same a r.zero) None (Some (power_of r a (count - 2)))
+
+-- The product of `x - c j` over `j` below `n`.
+abbrev pub root_product : {E : Type 0} → RingOps E → (ℕ → E) → ℕ → E → E
+root_product r c zero x = r.one
+root_product r c (suc n) x = r.mul (root_product r c n x) (r.add x (r.neg (c n)))
+
+-- A one to one map of rings.
+pub record IsEmbedding {B E : Type 0} (base : RingOps B) (r : RingOps E) (embed : B → E) : Type 0 where
+  pub embed_in : (b : B) → IsElem base b → IsElem r (embed b)
+  pub embed_one : embed base.one ≡ r.one
+  pub embed_add : (a b : B) → IsElem base a → IsElem base b → embed (base.add a b) ≡ r.add (embed a) (embed b)
+  pub embed_mul : (a b : B) → IsElem base a → IsElem base b → embed (base.mul a b) ≡ r.mul (embed a) (embed b)
+  pub embed_inj : (a b : B) → IsElem base a → IsElem base b → embed a ≡ embed b → a ≡ b
+
+-- The laws of the power `q` and its repetitions in a field of degree `degree` over a field of `q` elements.
+pub record IsPowerFrob {B E : Type 0} (base : RingOps B) (r : RingOps E) (embed : B → E) (q degree : ℕ) : Type 0 where
+  pub frob_in : (c : E) (i : ℕ) → IsElem r c → IsElem r (power_of r c (q ^ i))
+  pub frob_zero : (c : E) → IsElem r c → power_of r c (q ^ 0) ≡ c
+  pub frob_plus : (c : E) (i j : ℕ) → IsElem r c → power_of r c (q ^ (i + j)) ≡ power_of r (power_of r c (q ^ i)) (q ^ j)
+  pub frob_add : (a b : E) (i : ℕ) → IsElem r a → IsElem r b
+      → power_of r (r.add a b) (q ^ i) ≡ r.add (power_of r a (q ^ i)) (power_of r b (q ^ i))
+  pub frob_mul : (a b : E) (i : ℕ) → IsElem r a → IsElem r b
+      → power_of r (r.mul a b) (q ^ i) ≡ r.mul (power_of r a (q ^ i)) (power_of r b (q ^ i))
+  pub frob_inj : (a b : E) (i : ℕ) → IsElem r a → IsElem r b → power_of r a (q ^ i) ≡ power_of r b (q ^ i) → a ≡ b
+  pub frob_embed : (b : B) (i : ℕ) → IsElem base b → power_of r (embed b) (q ^ i) ≡ embed b
+  pub fixed : (c : E) → IsElem r c → power_of r c (q ^ 1) ≡ c → (b : B) × IsElem base b × (c ≡ embed b)
+  pub frob_degree : (c : E) → IsElem r c → power_of r c (q ^ degree) ≡ c
+
+-- The power `q` is a linear map over the constants that `embed` gives, and fixes each of them.
+pub record IsPowerLinear {B E : Type 0} (base : RingOps B) (r : RingOps E) (embed : B → E) (q : ℕ) : Type 0 where
+  pub power_add : (a b : E) → IsElem r a → IsElem r b → power_of r (r.add a b) q ≡ r.add (power_of r a q) (power_of r b q)
+  pub power_scale : (b : B) (c : E) → IsElem base b → IsElem r c → power_of r (r.mul (embed b) c) q ≡ r.mul (embed b) (power_of r c q)
+  pub power_embed : (b : B) → IsElem base b → power_of r (embed b) q ≡ embed b
+
+-- The elements are numbered by the numbers below `count`, each number once, and zero has the number 0.
+pub record IsNumbered {E : Type 0} (r : RingOps E) (count : ℕ) : Type 0 where
+  pub index : E → ℕ
+  pub nth : ℕ → E
+  pub below : (a : E) → IsElem r a → index a < count
+  pub nth_in : (i : ℕ) → IsElem r (nth i)
+  pub nth_index : (a : E) → IsElem r a → nth (index a) ≡ a
+  pub index_nth : (i : ℕ) → i < count → index (nth i) ≡ i
+  pub index_zero : index r.zero ≡ 0

@@ -1,0 +1,10 @@
+use Rattle.std.proofs.Common.{sym, subst}
+use Rattle.ring_core.specs.Ring.{IsElem}
+use Rattle.residue_field.specs.Top.{ops_of_top}
+use Rattle.first_answer.proofs.Elements.{letter_elem}
+use Rattle.first_answer.proofs.value.letter_of_field.Goals as goal
+
+pub returns-clause-elem : goal.returns-clause-elem
+returns-clause-elem c =
+    let t = c.args.field.now in
+    subst (IsElem (ops_of_top t)) (sym c.letter.ensures) (letter_elem t)

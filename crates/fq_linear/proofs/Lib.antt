@@ -1,0 +1,10 @@
+pub mod Places
+pub mod Tables
+pub mod Slots
+pub mod Joined
+pub mod Steps
+pub mod Gathered
+pub mod Leads
+pub mod Basis
+pub mod Solutions
+pub mod Results

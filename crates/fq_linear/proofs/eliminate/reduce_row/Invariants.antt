@@ -1,0 +1,15 @@
+use Rattle.std.proofs.Common.{◌≡◌, ℕ, ◌<◌, true, length}
+use Rattle.ring_core.specs.Coeffs.{coeff, are_elems}
+use Rattle.linear_algebra.specs.Combines.{Combines, minus}
+use Rattle.fq_linear.specs.Elimination.{is_lead, slot}
+use Rattle.fq_linear.proofs.eliminate.reduce_row.Given as goal
+
+abbrev pub invariant-loop-j : goal.invariant-loop-j
+invariant-loop-j g l =
+    let r = g.F.Field.ops l.f in
+    record {
+      len : length l.row ≡ length l.fn.row;
+      elems : are_elems r l.row ≡ true;
+      taken : Combines r (length l.fn.row) (slot r (length l.fn.row) l.index l.cells) (minus r (coeff r l.fn.row) (coeff r l.row));
+      clear : (k : ℕ) → k < l.j → is_lead l.index k ≡ true → coeff r l.row k ≡ r.zero;
+    }

@@ -1,0 +1,189 @@
+//! The one elimination: rows are inserted one after another into reduced rows, which are found by their
+//! leads.
+
+ghost use Rattle.std.specs.Prelude.{◌≡◌, ◌+◌, ◌*◌, ◌<◌, ◌≤◌, ℕ, true, length, None, IfOk};
+ghost use Rattle.ring_core.specs.Ring.{IsElem};
+ghost use Rattle.ring_core.specs.Coeffs.{coeff, are_elems};
+ghost use Rattle.linear_algebra.specs.Combines.{Combines, minus};
+ghost use Rattle.linear_algebra.specs.Linear.{entry, are_rows};
+ghost use Rattle.fq_linear.specs.Places.{cleared};
+ghost use Rattle.fq_linear.specs.Table.{row_cells};
+ghost use Rattle.fq_linear.specs.Elimination.{row_number, is_lead, slot, IsTable, IsBelow, CanJoin, IsInserted, augmented, IsEliminated};
+
+use super::cells::{clear_at, filled, make_monic, top_place, write_at, write_unit};
+use super::rows::Rows;
+use ring_core::{E, Field, NoMemory};
+use std::alloc::Global;
+
+/// Reduced rows, of the width of `index`, which has at each lead the number of its row in `cells`.
+#[derive(Drop)]
+pub(super) struct Reduced<E> {
+    pub(super) cells: Vec<E>,
+    pub(super) index: Vec<Option<usize>>,
+}
+
+/// Clears the row at `j` by the row of the table with lead `j`, where there is one.
+fn clear_by_slot<F: Field>(
+    f: &F,
+    j: usize,
+    index: &[Option<usize>],
+    cells: &[E<F>],
+    row: &mut [E<F>],
+)
+    requires table { IsTable (F.ops f.now) (length row.old) index.now cells.now }
+    requires row { are_elems (F.ops f.now) row.old ≡ true }
+    requires place { j < length row.old }
+    ensures len { length row.new ≡ length row.old }
+    ensures elems { are_elems (F.ops f.now) row.new ≡ true }
+    ensures cleared { (k : ℕ) → let r = F.ops f.now in coeff r row.new k ≡ cleared r j (slot r (length row.old) index.now cells.now j) (coeff r row.old) k }
+{
+    let w = row.len();
+    if let Some(i) = index[j] {
+        clear_at(f, row, 0, j, &cells[i * w..i * w + w]);
+    }
+}
+
+/// Clears the row at all leads by the rows of the table.
+pub(super) fn reduce_row<F: Field>(f: &F, index: &[Option<usize>], cells: &[E<F>], row: &mut [E<F>])
+    requires table { IsTable (F.ops f.now) (length row.old) index.now cells.now }
+    requires row { are_elems (F.ops f.now) row.old ≡ true }
+    ensures len { length row.new ≡ length row.old }
+    ensures elems { are_elems (F.ops f.now) row.new ≡ true }
+    ensures taken { let r = F.ops f.now in let w = length row.old in Combines r w (slot r w index.now cells.now) (minus r (coeff r row.old) (coeff r row.new)) }
+    ensures clear { (k : ℕ) → is_lead index.now k ≡ true → coeff (F.ops f.now) row.new k ≡ (F.ops f.now).zero }
+{
+    for j in 0..row.len() {
+        clear_by_slot(f, j, index, cells, row);
+    }
+}
+
+/// Clears place `l` of each of the first `count` rows of the cells by `row`.
+fn clear_rows<F: Field>(f: &F, count: usize, l: usize, cells: &mut [E<F>], row: &[E<F>])
+    requires cells { are_elems (F.ops f.now) cells.old ≡ true }
+    requires row { are_elems (F.ops f.now) row.now ≡ true }
+    requires place { l < length row.now }
+    requires above { (k : ℕ) → l < k → coeff (F.ops f.now) row.now k ≡ (F.ops f.now).zero }
+    requires room { count * length row.now ≤ length cells.old }
+    ensures len { length cells.new ≡ length cells.old }
+    ensures elems { are_elems (F.ops f.now) cells.new ≡ true }
+    ensures cleared { (i k : ℕ) → i < count → k < length row.now → let r = F.ops f.now in let w = length row.now in coeff r cells.new (i * w + k) ≡ cleared r l (coeff r row.now) (λ m. coeff r cells.old (i * w + m)) k }
+{
+    let w = row.len();
+    for i in 0..count {
+        clear_at(f, cells, i * w, l, row);
+    }
+}
+
+/// Keeps `row`, whose lead is `l`, as row `count` of the table, once the rows before are cleared at `l`.
+fn keep_row<F: Field>(
+    f: &F,
+    count: usize,
+    l: usize,
+    index: &mut [Option<usize>],
+    cells: &mut [E<F>],
+    row: &[E<F>],
+)
+    requires table { IsTable (F.ops f.now) (length row.now) index.old cells.old }
+    requires below { IsBelow count index.old }
+    requires room { count * length row.now + length row.now ≤ length cells.old }
+    requires row { are_elems (F.ops f.now) row.now ≡ true }
+    requires joins { CanJoin (F.ops f.now) index.old row.now l }
+    ensures cells_len { length cells.new ≡ length cells.old }
+    ensures table { IsTable (F.ops f.now) (length row.now) index.new cells.new }
+    ensures below { IsBelow (count + 1) index.new }
+    ensures inserted { let r = F.ops f.now in let w = length row.now in IsInserted r w (slot r w index.old cells.old) (slot r w index.new cells.new) (coeff r row.now) }
+{
+    clear_rows(f, count, l, cells, row);
+    write_at(cells, count * row.len(), row);
+    index[l] = Some(count);
+}
+
+/// Inserts the row into the table; where anything of it is left once it is reduced, this becomes row `count`.
+fn insert_row<F: Field>(
+    f: &F,
+    count: usize,
+    index: &mut [Option<usize>],
+    cells: &mut [E<F>],
+    row: &mut [E<F>],
+)
+    requires table { IsTable (F.ops f.now) (length row.old) index.old cells.old }
+    requires below { IsBelow count index.old }
+    requires room { count * length row.old + length row.old ≤ length cells.old }
+    requires row { are_elems (F.ops f.now) row.old ≡ true }
+    ensures row_len { length row.new ≡ length row.old }
+    ensures row_elems { are_elems (F.ops f.now) row.new ≡ true }
+    ensures cells_len { length cells.new ≡ length cells.old }
+    ensures table { IsTable (F.ops f.now) (length row.old) index.new cells.new }
+    ensures below { IsBelow (count + 1) index.new }
+    ensures inserted { let r = F.ops f.now in let w = length row.old in IsInserted r w (slot r w index.old cells.old) (slot r w index.new cells.new) (coeff r row.old) }
+{
+    reduce_row(f, index, cells, row);
+    let Some(l) = top_place(f, row) else {
+        return;
+    };
+    make_monic(f, l, row);
+    keep_row(f, count, l, index, cells, row);
+}
+
+/// Inserts each of the `n` rows of `source`, which have the width `width`, with row `i` of the unit matrix of
+/// width `offset` before it. `row` is room for one such row.
+fn insert_all<F: Field>(
+    f: &F,
+    n: usize,
+    offset: usize,
+    width: usize,
+    source: &[E<F>],
+    index: &mut [Option<usize>],
+    cells: &mut [E<F>],
+    row: &mut [E<F>],
+)
+    requires source { are_elems (F.ops f.now) source.now ≡ true }
+    requires source_len { length source.now ≡ n * width }
+    requires index_len { length index.old ≡ offset + width }
+    requires empty { (j : ℕ) → row_number index.old j ≡ None }
+    requires cells { are_elems (F.ops f.now) cells.old ≡ true }
+    requires cells_len { length cells.old ≡ n * (offset + width) }
+    requires row { are_elems (F.ops f.now) row.old ≡ true }
+    requires row_len { length row.old ≡ offset + width }
+    ensures { let r = F.ops f.now in IsEliminated r (offset + width) n (augmented r offset (λ i. coeff r (row_cells width source.now i))) index.new cells.new }
+{
+    for i in 0..n {
+        write_unit(f, offset, i, row);
+        write_at(row, offset, &source[i * width..i * width + width]);
+        insert_row(f, i, index, cells, row);
+    }
+}
+
+/// Eliminates the rows with the unit matrix of width `offset` before them. With no unit matrix, `offset` zero,
+/// the table holds an echelon basis of the rows; with one row of it for each row, also the relations.
+pub(super) fn eliminate<F: Field>(
+    alloc: Global,
+    f: &F,
+    offset: usize,
+    rows: &Rows<E<F>>,
+) -> Result<Reduced<E<F>>, NoMemory>
+    requires { are_rows (F.ops f.now) rows.now.width rows.now.rows ≡ true }
+    ensures { let r = F.ops f.now in IfOk result (λ t. IsEliminated r (offset + rows.now.width) (length rows.now.rows) (augmented r offset (entry r rows.now.rows)) t.index.items t.cells.items) }
+{
+    let n = rows.len();
+    let Some(w) = offset.checked_add(rows.width()) else {
+        return Err(NoMemory);
+    };
+    let Some(size) = n.checked_mul(w) else {
+        return Err(NoMemory);
+    };
+    let mut cells = filled(alloc, size, f.zero())?;
+    let mut index = filled(alloc, w, None)?;
+    let mut row = filled(alloc, w, f.zero())?;
+    insert_all(
+        f,
+        n,
+        offset,
+        rows.width(),
+        rows.cells(),
+        &mut index,
+        &mut cells,
+        &mut row,
+    );
+    Ok(Reduced { cells, index })
+}

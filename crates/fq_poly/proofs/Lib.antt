@@ -1,0 +1,5 @@
+pub mod Terms
+pub mod Clearing
+pub mod Shifts
+pub mod Tops
+pub mod Uniqueness

@@ -1,0 +1,17 @@
+use Rattle.std.proofs.Common.{◌≡◌, ℕ, ◌+◌, ◌<◌, ◌≤◌, true, length}
+use Rattle.ring_core.specs.Coeffs.{coeff, are_elems}
+use Rattle.ring_core.specs.Twisted.{product_at}
+use Rattle.fq_poly.proofs.division.clear_places.Given as goal
+
+-- The places of the quotient below `l.k` are still zero, and the rest is zero at and past the sum of
+-- `l.k` and the length of the divisor less one.
+abbrev pub invariant-loop-k : goal.invariant-loop-k
+invariant-loop-k g l =
+    let r = g.F.Field.ops l.field in
+    record {
+      rest_elems : are_elems r l.rest ≡ true;
+      quotient_elems : are_elems r l.quotient ≡ true;
+      sum : (n : ℕ) → coeff r l.initial.rest n ≡ r.add (product_at r (λ c i. c) l.quotient l.b n) (coeff r l.rest n);
+      empty : (n : ℕ) → n < l.k → coeff r l.quotient n ≡ r.zero;
+      cleared : (n : ℕ) → l.k + length l.b ≤ n + 1 → coeff r l.rest n ≡ r.zero;
+    }

@@ -1,0 +1,44 @@
+use Rattle.std.proofs.Common.{◌≡◌, length, refl, sym, ap, ◌∙◌, arith}
+use Rattle.ring_core.specs.Coeffs.{coeff, trim}
+use Rattle.ring_core.proofs.Coefficients.{coeff-first_values, length-first_values}
+use Rattle.ring_core.proofs.RowSteps.{whole_written}
+use Rattle.fq_poly.proofs.Clearing.{division_done}
+use Rattle.fq_poly.proofs.division.divide_list.Goals as goal
+
+pub clear_places-requires-clause-places : goal.clear_places-requires-clause-places
+clear_places-requires-clause-places g c =
+    let r = g.F.Field.ops c.args.field.now in
+    let places = c.saturating_sub-places.result in
+    let rest : length c.deref_mut.result.now ≡ length c.args.a.now = ap length (c.deref_mut.ensures.value ∙ c.in_ok-rest.ensures) in
+    let quotient : length c.deref_mut-2.result.now ≡ places =
+    ap length (c.deref_mut-2.ensures.value ∙ c.in_ok-quotient.ensures.value) ∙ length-first_values r places (λ i. r.zero) in
+    omega (arith, c.saturating_sub-places.ensures)
+
+pub clear_places-requires-clause-zeros : goal.clear_places-requires-clause-zeros
+clear_places-requires-clause-zeros g c =
+    let r = g.F.Field.ops c.args.field.now in
+    λ k.
+    ap (λ u. coeff r u k) (c.deref_mut-2.ensures.value ∙ c.in_ok-quotient.ensures.value)
+    ∙ coeff-first_values r c.saturating_sub-places.result (λ i. r.zero) (λ i l. refl) k
+
+pub returns : goal.returns
+returns g c =
+    let r = g.F.Field.ops c.args.field.now in
+    let places = c.saturating_sub-places.result in
+    let rest = c.in_ok-rest.rest in
+    let quotient = c.in_ok-quotient.quotient in
+    let cleared = c.clear_places.new.rest in
+    let written = c.clear_places.new.quotient in
+    let old : c.deref_mut.result.now ≡ c.args.a.now = c.deref_mut.ensures.value ∙ c.in_ok-rest.ensures in
+    let rest_lent : length c.deref_mut.result.now ≡ length rest.items = ap length c.deref_mut.ensures.value in
+    let quotient_lent : length c.deref_mut-2.result.now ≡ length quotient.items = ap length c.deref_mut-2.ensures.value in
+    let rest_count : length rest.items ≡ rest.len = omega (arith, rest.ok.0) in
+    let quotient_count : length quotient.items ≡ quotient.len = omega (arith, quotient.ok.0) in
+    let rest_kept : length cleared ≡ rest.len = omega arith in
+    let quotient_kept : length written ≡ quotient.len = omega arith in
+    division_done r (g.met.F.Field.laws c.args.field.now).ring c.args.a.now c.args.b.now written cleared _ _
+    c.requires.dividend c.requires.divisor c.clear_places.ensures.quotient c.clear_places.ensures.rest c.requires.nonzero
+    (λ n. ap (λ u. coeff r u n) (sym old) ∙ c.clear_places.ensures.sum n)
+    c.clear_places.ensures.cleared
+    (c.trimmed.ensures.value ∙ ap (trim r) (whole_written quotient.len written quotient.items quotient_kept quotient_count))
+    (c.trimmed-2.ensures.value ∙ ap (trim r) (whole_written rest.len cleared rest.items rest_kept rest_count))

@@ -1,0 +1,5 @@
+use Rattle.fq_poly.proofs.Uniqueness.{degrees}
+use Rattle.fq_poly.proofs.laws.degrees_add.Goals as goal
+
+pub returns : goal.returns
+returns g c = λ k. degrees _ _ (g.met.F.Field.laws k)

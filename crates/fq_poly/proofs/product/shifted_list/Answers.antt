@@ -1,0 +1,35 @@
+use Rattle.std.proofs.Common.{◌≡◌, ◌<◌, [], length, ap, sym, ◌∙◌, arith}
+use Rattle.std.proofs.lemmas.Bool.{eqb-true, eqb-false}
+use Rattle.std.proofs.lemmas.List.{nil_from_length}
+use Rattle.ring_core.specs.Coeffs.{is_canonical}
+use Rattle.ring_core.specs.Powers.{power_of}
+use Rattle.fq_poly.specs.Poly.{poly_mul, poly_ops, letter}
+use Rattle.fq_poly.proofs.Shifts.{canonical_behind, shift_is, shift_of_zero}
+use Rattle.fq_poly.proofs.product.shifted_list.Goals as goal
+
+pub returns-then-is_empty-clause-value : goal.returns-then-is_empty-clause-value
+returns-then-is_empty-clause-value g c =
+    let r = g.F.Field.ops c.args.field.now in
+    let field = g.met.F.Field.laws c.args.field.now in
+    let list = c.args.list.now in
+    let empty : list ≡ [] = nil_from_length list (eqb-true (length list) 0 (sym c.is_empty.ensures ∙ c.if-is_empty.true)) in
+    c.new.ensures.items ∙ shift_of_zero r field.ring field.one_ne_zero c.args.k
+    ∙ ap (λ u. poly_mul r u (power_of (poly_ops r) (letter r) c.args.k)) (sym empty)
+
+pub returns-clause-value : goal.returns-clause-value
+returns-clause-value g c =
+    let r = g.F.Field.ops c.args.field.now in
+    let field = g.met.F.Field.laws c.args.field.now in
+    let list = c.args.list.now in
+    let some = eqb-false (length list) 0 (sym c.is_empty.ensures ∙ c.if-is_empty.false) in
+    let pos : 0 < length list = omega arith in
+    c.in_ok-behind_zeros.ensures ∙ shift_is r field.ring field.one_ne_zero list c.args.k c.requires pos
+
+pub returns-clause-elem : goal.returns-clause-elem
+returns-clause-elem g c =
+    let r = g.F.Field.ops c.args.field.now in
+    let field = g.met.F.Field.laws c.args.field.now in
+    let list = c.args.list.now in
+    let some = eqb-false (length list) 0 (sym c.is_empty.ensures ∙ c.if-is_empty.false) in
+    let pos : 0 < length list = omega arith in
+    ap (is_canonical r) c.in_ok-behind_zeros.ensures ∙ canonical_behind r c.args.k list field.ring.closed.zero_in pos c.requires

@@ -1,0 +1,4 @@
+pub mod Poly
+pub mod Division
+pub mod Monic
+pub mod Laws

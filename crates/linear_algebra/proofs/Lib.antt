@@ -1,0 +1,12 @@
+pub mod Sums
+pub mod Spans
+pub mod Slots
+pub mod Unique
+pub mod Insert
+pub mod Augment
+pub mod Lift
+pub mod Gather
+pub mod Echelon
+pub mod Transform
+pub mod Tops
+pub mod RowLists

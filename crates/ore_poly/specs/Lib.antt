@@ -1,0 +1,5 @@
+pub mod Degrees
+pub mod Terms
+pub mod ProductLaws
+pub mod Module
+pub mod Homomorphism

@@ -1,0 +1,73 @@
+-- The laws of the embedding of the constants, of the Frobenius and of the coordinates, for residues
+-- without two nonzero ones that multiply to zero over any finite field of constants, in any storage.
+use Rattle.std.proofs.Common.{◌≡◌, ℕ, suc, ◌^◌, ◌<◌, ◌≤◌, sym, subst, arith}
+use Rattle.ring_core.specs.Ring.{RingOps, IsRing, IsCommutative}
+use Rattle.ring_core.specs.Field.{FrobOps, IsFrobField}
+use Rattle.ring_core.specs.Coeffs.{coeff}
+use Rattle.ring_core.specs.Powers.{power_of}
+use Rattle.ring_core.proofs.Carrier.{elements}
+use Rattle.ring_core.proofs.Coefficients.{elem_read}
+use Rattle.finite_ring.specs.Finite.{HasNoPair}
+use Rattle.finite_ring.proofs.Counted.{IsCounted}
+use Rattle.finite_ring.proofs.Frobenius.{IsFiniteField}
+use Rattle.finite_ring.proofs.Embedding.{power_frob, field_above}
+use Rattle.residue_field.specs.Residue.{constant_at, Places, residue_ops, IsMonic, IsPlaces}
+use Rattle.residue_field.proofs.ResidueRing.{residue_ring, residue_commutes}
+use Rattle.residue_field.proofs.Counted.{residue_counted}
+use Rattle.residue_field.proofs.Embedded.{residue_embedding, embed_on, place-add, place-scale}
+
+-- What the residues have beside their operations, over q constants.
+abbrev pub residue_frob : {E T : Type 0} → RingOps E → ℕ → (ℕ → E) → Places E T → ℕ → ℕ → FrobOps T E
+residue_frob r n f c q degree = record {
+  degree = degree;
+  embed = λ b. c.pack (constant_at r b);
+  frob = λ x i. power_of (residue_ops r n f c) x (q ^ i);
+  coord = c.place;
+  of_coords = λ list. c.pack (coeff r list);
+}
+
+module _ {E T : Type 0} (r : RingOps E) (h : IsRing r) (commutes : IsCommutative r) (n : ℕ) (f : ℕ → E) (m : IsMonic r n f) (c : Places E T) (p : IsPlaces r n c)
+    (q : ℕ) (k : IsFiniteField (elements h) q) (degree : ℕ) (is : degree ≡ suc n) (no_pair : HasNoPair (residue_ops r n f c)) where
+  counted_by_degree : (ring : IsRing (residue_ops r n f c)) → IsCounted (elements ring) (q ^ degree)
+  counted_by_degree ring =
+      subst (λ d. IsCounted (elements ring) (q ^ d)) (sym is) (residue_counted r h n f c p q k.counted ring)
+
+  positive : 0 < degree
+  positive = omega (arith, is)
+
+  -- the residues are a finite field of their own
+  pub residue_finite : (ring : IsRing (residue_ops r n f c)) → IsFiniteField (elements ring) (q ^ degree)
+  residue_finite ring =
+      field_above r h (residue_ops r n f c) ring (residue_commutes r h commutes n f m c p)
+      (embed_on r h commutes n f m c p) (residue_embedding r h commutes n f m c p) q k degree positive (counted_by_degree ring) no_pair
+
+  pub residue_frob_field : degree ≤ 16 → IsFrobField (residue_ops r n f c) r (residue_frob r n f c q degree)
+  residue_frob_field small =
+      let ring = residue_ring r h commutes n f m c p in
+      let e = residue_embedding r h commutes n f m c p in
+      let w = power_frob r h (residue_ops r n f c) ring (residue_commutes r h commutes n f m c p)
+      (embed_on r h commutes n f m c p) e q k degree positive (counted_by_degree ring) no_pair in
+      let low = λ (j : ℕ) (l : j < degree). subst (λ d. j < d) is l in
+      record {
+        degree_pos = positive;
+        degree_small = small;
+        embed_in = e.embed_in;
+        embed_add = e.embed_add;
+        embed_mul = e.embed_mul;
+        embed_inj = e.embed_inj;
+        frob_in = w.frob_in;
+        frob_zero = w.frob_zero;
+        frob_plus = w.frob_plus;
+        frob_add = w.frob_add;
+        frob_mul = w.frob_mul;
+        frob_inj = w.frob_inj;
+        frob_embed = w.frob_embed;
+        fixed = w.fixed;
+        frob_degree = w.frob_degree;
+        coord_in = λ x j s l. p.place_in x j s;
+        coord_add = λ x y j s t l. place-add r h commutes n f m c p x y j s t (low j l);
+        coord_scale = λ b x j s t l. place-scale r h commutes n f m c p b x j s t (low j l);
+        coord_inj = λ x y s t same. p.place_inj x y s t (λ i l. same i (subst (λ d. i < d) (sym is) l));
+        of_coords_in = λ list s l. p.pack_in _ (elem_read r list h.closed.zero_in s);
+        of_coords_is = λ list j s l t. p.place_pack _ j (elem_read r list h.closed.zero_in s) (low j t);
+      }

@@ -1,0 +1,23 @@
+pub mod Act
+pub mod Reduce
+pub mod ResidueRing
+pub mod Modular
+pub mod Listed
+pub mod DigitLaws
+pub mod TopPlaces
+pub mod Counted
+pub mod BaseLaws
+pub mod TopLaws
+pub mod Embedded
+pub mod FrobLaws
+pub mod Characteristic
+pub mod BaseFinite
+pub mod TopFrob
+pub mod Rows
+pub mod Tables
+mod Examples
+pub mod Quotient
+pub mod Coordinates
+pub mod Period
+pub mod Acceptance
+pub mod Letter

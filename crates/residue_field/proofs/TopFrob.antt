@@ -1,0 +1,90 @@
+-- Top fields with their Frobenius, and the test by which residues over a base field are a top field.
+use Rattle.std.proofs.Common.{◌≡◌, ℕ, ◌-◌, ◌^◌, ◌<◌, ◌≤◌, List, sym, ap, subst, ◌∙◌, arith}
+use Rattle.ring_core.specs.Ring.{IsElem, IsRing}
+use Rattle.ring_core.specs.Field.{IsFrobField}
+use Rattle.ring_core.specs.Coeffs.{coeff, sum_below}
+use Rattle.ring_core.specs.Powers.{power_of}
+use Rattle.ring_core.proofs.Carrier.{elements}
+use Rattle.finite_ring.specs.Finite.{HasNoPair, IsPowerLinear}
+use Rattle.finite_ring.proofs.Frobenius.{IsFiniteField}
+use Rattle.residue_field.specs.declared.TopElem.{TopElem}
+use Rattle.residue_field.specs.declared.TheConstants.{WIDTH}
+use Rattle.residue_field.specs.Residue.{constant_at, residue_unit}
+use Rattle.residue_field.specs.Base.{Base, ops_of, size_of}
+use Rattle.residue_field.specs.TopElem.{top_places}
+use Rattle.residue_field.specs.Top.{Top, top_ops, ops_of_top, embed_of, from_coords, frob_of_top, letter_of}
+use Rattle.residue_field.proofs.BaseLaws.{base_ring, base_commutes}
+use Rattle.residue_field.proofs.BaseFinite.{base_finite}
+use Rattle.residue_field.proofs.TopLaws.{IsTopShape, top_monic, top_stored, top_degree, top_shape_of}
+use Rattle.residue_field.proofs.Embedded.{residue_linear, residue_accepted}
+use Rattle.residue_field.proofs.Letter.{letter_power}
+use Rattle.residue_field.proofs.Coordinates.{linear_places}
+use Rattle.residue_field.proofs.FrobLaws.{residue_frob_field, residue_finite}
+
+module _ (base : Base) (n : ℕ) (modulus : List ℕ) (shape : IsTopShape base n modulus) where
+  -- the power by the size of the base is linear, whether or not the residues are a field
+  pub top_shape_linear : IsPowerLinear (ops_of base) (top_ops base n modulus) (λ b. (top_places (ops_of base) n).pack (constant_at (ops_of base) b)) (size_of base)
+  unfolding top_ops
+  top_shape_linear =
+      residue_linear (ops_of base) (base_ring base) (base_commutes base) n _ (top_monic base n modulus shape)
+      (top_places (ops_of base) n) (top_stored base n modulus shape) (size_of base) (base_finite base (base_ring base))
+
+  pub top_shape_accepted : ((x : TopElem) → IsElem (top_ops base n modulus) x → power_of (top_ops base n modulus) x (size_of base) ≡ (top_ops base n modulus).zero → x ≡ (top_ops base n modulus).zero)
+      → ((x : TopElem) → IsElem (top_ops base n modulus) x → power_of (top_ops base n modulus) x (size_of base) ≡ x
+      → (b : ℕ) × IsElem (ops_of base) b × (x ≡ (top_places (ops_of base) n).pack (constant_at (ops_of base) b)))
+      → HasNoPair (top_ops base n modulus)
+  unfolding top_ops
+  top_shape_accepted =
+      residue_accepted (ops_of base) (base_ring base) (base_commutes base) n _ (top_monic base n modulus shape)
+      (top_places (ops_of base) n) (top_stored base n modulus shape) (size_of base) (base_finite base (base_ring base))
+
+pub top_frob_field : (t : Top) → IsFrobField (ops_of_top t) (ops_of t.base) (frob_of_top t)
+unfolding top_ops embed_of from_coords
+top_frob_field t =
+    let shape = top_shape_of t in
+    let n = t.n - 1 in
+    let fits : t.n ≤ WIDTH = t.is_top.1 in
+    residue_frob_field (ops_of t.base) (base_ring t.base) (base_commutes t.base) n _ (top_monic t.base n t.modulus shape)
+    (top_places (ops_of t.base) n) (top_stored t.base n t.modulus shape) (size_of t.base) (base_finite t.base (base_ring t.base))
+    t.n (sym (top_degree t)) t.is_top.5 (omega arith)
+
+pub top_finite : (t : Top) (ring : IsRing (ops_of_top t)) → IsFiniteField (elements ring) (size_of t.base ^ t.n)
+unfolding top_ops
+top_finite t ring =
+    let shape = top_shape_of t in
+    let n = t.n - 1 in
+    residue_finite (ops_of t.base) (base_ring t.base) (base_commutes t.base) n _ (top_monic t.base n t.modulus shape)
+    (top_places (ops_of t.base) n) (top_stored t.base n t.modulus shape) (size_of t.base) (base_finite t.base (base_ring t.base))
+    t.n (sym (top_degree t)) t.is_top.5 ring
+
+-- The Frobenius by coefficients: that of x is the combination of those of the powers of the letter.
+pub frob_places : (t : Top) (x : TopElem) (i l : ℕ) → IsElem (ops_of_top t) x → l < t.n
+    → coeff (ops_of t.base) ((frob_of_top t).frob x i).0 l
+    ≡ sum_below (ops_of t.base) t.n (λ j. (ops_of t.base).mul (coeff (ops_of t.base) x.0 j)
+    (coeff (ops_of t.base) ((frob_of_top t).frob (residue_unit (ops_of t.base) (top_places (ops_of t.base) (t.n - 1)) j) i).0 l))
+unfolding top_ops embed_of from_coords
+frob_places t x i l e low =
+    let shape = top_shape_of t in
+    let n = t.n - 1 in
+    let laws = top_frob_field t in
+    let frob = (frob_of_top t).frob in
+    linear_places (ops_of t.base) (base_ring t.base) (base_commutes t.base) n _ (top_monic t.base n t.modulus shape)
+    (top_places (ops_of t.base) n) (top_stored t.base n t.modulus shape) (λ y. frob y i)
+    (record {
+      map_in = λ y d. laws.frob_in y i d;
+      map_add = λ y z d g. laws.frob_add y z i d g;
+      map_scale = λ b y d g.
+          laws.frob_mul (embed_of t b) y i (laws.embed_in b d) g
+          ∙ ap (λ z. (ops_of_top t).mul z (frob y i)) (laws.frob_embed b i d);
+    })
+    x l e (subst (λ d. l < d) (sym (top_degree t)) low)
+    ∙ ap (λ d. sum_below (ops_of t.base) d (λ j. (ops_of t.base).mul (coeff (ops_of t.base) x.0 j) (coeff (ops_of t.base) (frob (residue_unit (ops_of t.base) (top_places (ops_of t.base) n) j) i).0 l))) (top_degree t)
+
+-- The powers of the letter below the degree.
+pub letter_of_power : (t : Top) (j : ℕ) → j < t.n → power_of (ops_of_top t) (letter_of t) j ≡ residue_unit (ops_of t.base) (top_places (ops_of t.base) (t.n - 1)) j
+unfolding top_ops letter_of
+letter_of_power t j l =
+    let shape = top_shape_of t in
+    let n = t.n - 1 in
+    letter_power (ops_of t.base) (base_ring t.base) (base_commutes t.base) n _ (top_monic t.base n t.modulus shape)
+    (top_places (ops_of t.base) n) (top_stored t.base n t.modulus shape) j (subst (λ d. j < d) (sym (top_degree t)) l)

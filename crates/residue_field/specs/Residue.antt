@@ -1,0 +1,88 @@
+-- Residues modulo a monic polynomial, over any ring of constants and in any storage. A polynomial is
+-- the function that gives its coefficients; the modulus `f` has degree `n + 1`.
+use Rattle.std.specs.Prelude.{◌≡◌, ℕ, zero, suc, ◌+◌, ◌-◌, ◌<◌, ◌≤◌, Bool, true, cond, nat_eq}
+use Rattle.ring_core.specs.Ring.{RingOps, IsElem}
+use Rattle.ring_core.specs.Coeffs.{sum_below}
+
+-- The constant `c` as a polynomial.
+abbrev pub constant_at : {E : Type 0} → RingOps E → E → ℕ → E
+constant_at r c zero = c
+constant_at r c (suc i) = r.zero
+
+-- `x v`.
+abbrev pub shifted : {E : Type 0} → RingOps E → (ℕ → E) → ℕ → E
+shifted r v zero = r.zero
+shifted r v (suc i) = v i
+
+-- `x v` modulo `f`: the multiple of `f` that clears the place `n + 1` is taken away.
+abbrev pub times_x : {E : Type 0} → RingOps E → ℕ → (ℕ → E) → (ℕ → E) → ℕ → E
+times_x r n f v i = r.add (shifted r v i) (r.neg (r.mul (v n) (f i)))
+
+-- `a` modulo `f`, where `a` has `k` coefficients: `a_0 + x (a_1 + x (..))`, each product by `x`
+-- modulo `f`.
+abbrev pub residue : {E : Type 0} → RingOps E → ℕ → (ℕ → E) → ℕ → (ℕ → E) → ℕ → E
+residue r n f zero a i = r.zero
+residue r n f (suc k) a i = r.add (constant_at r (a 0) i) (times_x r n f (residue r n f k (λ j. a (suc j))) i)
+
+-- The product of polynomials: coefficient `k` is the sum of `a_i b_j` over `i + j = k`.
+abbrev pub product : {E : Type 0} → RingOps E → (ℕ → E) → (ℕ → E) → ℕ → E
+product r a b k = sum_below r (k + 1) (λ i. r.mul (a i) (b (k - i)))
+
+-- How a type stores the `n + 1` coefficients of a residue.
+pub record Places (E T : Type 0) : Type 0 where
+  pub is_elem : T → Bool
+  pub place : T → ℕ → E
+  pub pack : (ℕ → E) → T
+  pub same : T → T → Bool
+
+-- The ring of residues modulo `f`, stored as `c` says.
+abbrev pub residue_ops : {E T : Type 0} → RingOps E → ℕ → (ℕ → E) → Places E T → RingOps T
+residue_ops r n f c = record {
+  is_elem = c.is_elem;
+  zero = c.pack (λ i. r.zero);
+  one = c.pack (constant_at r r.one);
+  add = λ a b. c.pack (λ i. r.add (c.place a i) (c.place b i));
+  neg = λ a. c.pack (λ i. r.neg (c.place a i));
+  mul = λ a b. c.pack (residue r n f (n + 1 + (n + 1)) (product r (c.place a) (c.place b)));
+  same = c.same;
+}
+
+-- The residue of the polynomial `x`.
+abbrev pub residue_letter : {E T : Type 0} → RingOps E → ℕ → (ℕ → E) → Places E T → T
+residue_letter r n f c = c.pack (residue r n f 2 (shifted r (constant_at r r.one)))
+
+-- The residue of `x^j`, for `j` up to `n`.
+abbrev pub residue_unit : {E T : Type 0} → RingOps E → Places E T → ℕ → T
+residue_unit r c j = c.pack (λ i. cond (nat_eq j i) r.one r.zero)
+
+-- `map` is linear over the constants, which are multiplied with as `embed` says.
+pub record IsLinear {E T : Type 0} (r : RingOps E) (t : RingOps T) (embed : E → T) (map : T → T) : Type 0 where
+  pub map_in : (x : T) → IsElem t x → IsElem t (map x)
+  pub map_add : (x y : T) → IsElem t x → IsElem t y → map (t.add x y) ≡ t.add (map x) (map y)
+  pub map_scale : (b : E) (x : T) → IsElem r b → IsElem t x → map (t.mul (embed b) x) ≡ t.mul (embed b) (map x)
+
+-- `f` is monic of degree `n + 1`.
+pub record IsMonic {E : Type 0} (r : RingOps E) (n : ℕ) (f : ℕ → E) : Type 0 where
+  pub coeff_in : (i : ℕ) → IsElem r (f i)
+  pub top : f (suc n) ≡ r.one
+  pub past : (i : ℕ) → suc n < i → f i ≡ r.zero
+
+-- What a storage owes: `place` and `pack` are each other's inverse at the first `n + 1` places.
+pub record IsPlaces {E T : Type 0} (r : RingOps E) (n : ℕ) (c : Places E T) : Type 0 where
+  pub place_in : (t : T) (i : ℕ) → c.is_elem t ≡ true → IsElem r (c.place t i)
+  pub place_past : (t : T) (i : ℕ) → c.is_elem t ≡ true → suc n ≤ i → c.place t i ≡ r.zero
+  pub pack_in : (g : ℕ → E) → ((i : ℕ) → IsElem r (g i)) → c.is_elem (c.pack g) ≡ true
+  pub place_pack : (g : ℕ → E) (i : ℕ) → ((j : ℕ) → IsElem r (g j)) → i < suc n → c.place (c.pack g) i ≡ g i
+  pub place_inj : (t u : T) → c.is_elem t ≡ true → c.is_elem u ≡ true → ((i : ℕ) → i < suc n → c.place t i ≡ c.place u i) → t ≡ u
+  pub same_refl : (t : T) → c.is_elem t ≡ true → c.same t t ≡ true
+  pub same_eq : (t u : T) → c.is_elem t ≡ true → c.is_elem u ≡ true → c.same t u ≡ true → t ≡ u
+
+-- `v` is the remainder of `a` modulo `f`: `a` is a multiple of `f` and `v`, which is zero past `n`.
+pub record IsRemainder {E : Type 0} (r : RingOps E) (n : ℕ) (f a v : ℕ → E) : Type 0 where
+  pub quotient : ℕ → E
+  pub count : ℕ
+  pub quotient_in : (i : ℕ) → IsElem r (quotient i)
+  pub quotient_past : (i : ℕ) → count ≤ i → quotient i ≡ r.zero
+  pub value_in : (i : ℕ) → IsElem r (v i)
+  pub sum : (i : ℕ) → a i ≡ r.add (product r quotient f i) (v i)
+  pub past : (i : ℕ) → suc n ≤ i → v i ≡ r.zero

@@ -1,0 +1,11 @@
+use Rattle.std.proofs.Common.{◌≡◌, true}
+use Rattle.ring_core.specs.Coeffs.{coeff, are_elems, first_values}
+use Rattle.ring_core.proofs.lists.neg_values.Given as goal
+
+abbrev pub invariant-loop-i : goal.invariant-loop-i
+invariant-loop-i g l =
+    let r = g.K.Field.ops l.field in
+    record {
+      elems : are_elems r l.negatives.items ≡ true;
+      value : l.negatives.items ≡ first_values l.i (λ i. r.neg (coeff r l.list i));
+    }

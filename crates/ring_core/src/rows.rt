@@ -1,0 +1,47 @@
+//! Lists of elements of a field that are written in place, as a product made row by row does.
+ghost use Rattle.std.specs.Prelude.{◌≡◌, ℕ, ◌+◌, ◌<◌, ◌≤◌, IfOk, length, true};
+ghost use Rattle.ring_core.specs.Ring.{IsElem};
+ghost use Rattle.ring_core.specs.Coeffs.{coeff, are_elems, first_values};
+
+use super::field::{E, Field};
+use super::lists::coeff_at;
+use super::memory::NoMemory;
+use std::alloc::Global;
+
+/// The list of `n` zeros.
+pub fn zero_list<K: Field>(alloc: Global, field: &K, n: usize) -> Result<Vec<E<K>>, NoMemory>
+    ensures value { IfOk result (λ v. v.items ≡ first_values n (λ i. (K.ops field.now).zero)) }
+    ensures elems { IfOk result (λ v. are_elems (K.ops field.now) v.items ≡ true) }
+{
+    let mut zeros = Vec::new(alloc);
+    for i in 0..n {
+        let zero = field.zero();
+        zeros.push(zero)?;
+    }
+    Ok(zeros)
+}
+
+/// Adds `c` times `row` to `out`, from the place `i` on: `c row[k]` to `out[i + k]`. Makes no product
+/// where `c` is zero, and else one for each member of `row`.
+pub fn add_scaled<K: Field>(field: &K, out: &mut [E<K>], i: usize, c: E<K>, row: &[E<K>])
+    requires room { i + length row.now ≤ length out.old }
+    requires out { are_elems (K.ops field.now) out.old ≡ true }
+    requires factor { IsElem (K.ops field.now) c }
+    requires row { are_elems (K.ops field.now) row.now ≡ true }
+    ensures elems { are_elems (K.ops field.now) out.new ≡ true }
+    ensures below { let r = K.ops field.now in (k : ℕ) → k < i → coeff r out.new k ≡ coeff r out.old k }
+    ensures added { let r = K.ops field.now in
+        (k : ℕ) → coeff r out.new (i + k) ≡ r.add (coeff r out.old (i + k)) (r.mul c (coeff r row.now k)) }
+{
+    let zero = field.zero();
+    if field.equal(c, zero) {
+        return;
+    }
+    for j in 0..row.len() {
+        let old = coeff_at(field, out, i + j);
+        let member = coeff_at(field, row, j);
+        let term = field.mul(c, member);
+        let sum = field.add(old, term);
+        out[i + j] = sum;
+    }
+}

@@ -1,0 +1,7 @@
+use Rattle.std.proofs.Common.{◌≡◌, take}
+use Rattle.std.specs.Str.Parse.{digits_value}
+use Rattle.script_lang.specs.Tokens.{capped}
+use Rattle.script_lang.proofs.lexer.number_value.Given as goal
+
+abbrev pub invariant-loop-byte : goal.invariant-loop-byte
+invariant-loop-byte l = l.value ≡ capped (digits_value 10 (take l.byte-index l.digits))
