@@ -2,13 +2,10 @@
 #![tactic(auto)]
 
 #[cfg(test)]
-mod outcome;
-
-#[cfg(test)]
 mod first_scripts;
-
 #[cfg(test)]
 mod outside;
-
 #[cfg(test)]
 mod plain_count;
+#[cfg(test)]
+mod runs;

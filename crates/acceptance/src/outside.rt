@@ -1,94 +1,144 @@
 //! Words, reading and writing: whose fault a status is.
 
-use drinfeld_cli::run;
+use super::runs::{check_run, check_script, sink_of, source_of};
+use std::alloc::Global;
+use std::process::Abort;
 use std::test::Fail;
-use text_io::{FailSource, MemSink, PlainSource, Source};
-
-use super::outcome::{list_of, outcome_of, sink_of};
+use text_io::{MemSink, Source};
 
 const SCRIPT: &[u8] = b"base 2\nover 2 z^2+z+1\ncheck [z, 1] [z, z] [z+1]\n";
 
 #[test]
 fn refuses_a_long_script(rt: HostRuntime) -> Result<(), Fail> {
-    let long = outcome_of(rt.alloc(), &vec![in rt.alloc(); b'#'; 65537]?)?;
-    assert_eq!(rt; long.code, 4);
-    assert_eq!(rt; long.output.bytes().len(), 0);
-    assert_eq!(rt; long.errors.bytes(), b"too large: script\n".as_slice());
-    let longest = outcome_of(rt.alloc(), &vec![in rt.alloc(); b'#'; 65536]?)?;
-    assert_eq!(rt; longest.code, 9);
-    assert_eq!(rt; longest.output.bytes().len(), 0);
-    assert_eq!(rt; longest.errors.bytes(), b"not built yet\n".as_slice());
+    let long = vec![in rt.alloc(); b'#'; 65537]?;
+    check_script(&rt, rt.alloc(), &long, (4, b"", b"too large: script\n"))?;
+    let longest = vec![in rt.alloc(); b'#'; 65536]?;
+    check_script(&rt, rt.alloc(), &longest, (9, b"", b"not built yet\n"))
+}
+
+/// Runs with a word, and sees that the first call of the source is still to come.
+fn check_words(rt: &impl Abort, alloc: Global, errors: MemSink, line: &[u8]) -> Result<(), Fail> {
+    let words = vec![in alloc; String::from_str(alloc, "x")?]?;
+    let mut input = source_of(alloc, SCRIPT, 1, &[1])?;
+    check_run(
+        rt,
+        alloc,
+        &words,
+        &mut input,
+        (sink_of(alloc, &[])?, errors),
+        (2, b"", line),
+    )?;
+    assert!(rt; input.read(&mut [0; 1]).is_err());
     Ok(())
 }
 
 #[test]
 fn refuses_words_and_reads_nothing(rt: HostRuntime) -> Result<(), Fail> {
-    let alloc = rt.alloc();
-    let words = vec![in alloc; String::from_str(alloc, "x")?]?;
-    for fails in [false, true] {
-        let mut input = FailSource::new(SCRIPT.to_vec(alloc)?, 1, list_of(alloc, &[1])?);
-        let mut output = sink_of(alloc, &[])?;
-        let mut errors = sink_of(alloc, if fails { &[1] } else { &[] })?;
-        let status = run(alloc, &words, &mut input, &mut output, &mut errors);
-        assert_eq!(rt; status.code(), 2);
-        assert_eq!(rt; output.bytes().len(), 0);
-        let line: &[u8] = if fails { b"" } else { b"words refused\n" };
-        assert_eq!(rt; errors.bytes(), line);
-        // the first call is still to come, and fails
-        assert!(rt; input.read(&mut [0; 1]).is_err());
-    }
-    Ok(())
+    check_words(
+        &rt,
+        rt.alloc(),
+        sink_of(rt.alloc(), &[])?,
+        b"words refused\n",
+    )?;
+    check_words(&rt, rt.alloc(), sink_of(rt.alloc(), &[1])?, b"")
+}
+
+/// Runs over a source whose call with this number fails.
+fn check_read(
+    rt: &impl Abort,
+    alloc: Global,
+    call: u32,
+    errors: MemSink,
+    line: &[u8],
+) -> Result<(), Fail> {
+    let mut input = source_of(alloc, SCRIPT, 1, &[call])?;
+    check_run(
+        rt,
+        alloc,
+        &[],
+        &mut input,
+        (sink_of(alloc, &[])?, errors),
+        (7, b"", line),
+    )
 }
 
 #[test]
 fn tells_a_failed_read(rt: HostRuntime) -> Result<(), Fail> {
-    let alloc = rt.alloc();
-    for fails in [false, true] {
-        // the first call, or one in the middle of the script
-        for call in [1, 5] {
-            let mut input = FailSource::new(SCRIPT.to_vec(alloc)?, 1, list_of(alloc, &[call])?);
-            let mut output = sink_of(alloc, &[])?;
-            let mut errors = sink_of(alloc, if fails { &[1] } else { &[] })?;
-            let status = run(alloc, &[], &mut input, &mut output, &mut errors);
-            assert_eq!(rt; status.code(), 7);
-            assert_eq!(rt; output.bytes().len(), 0);
-            let line: &[u8] = if fails { b"" } else { b"read failed\n" };
-            assert_eq!(rt; errors.bytes(), line);
-        }
-    }
-    Ok(())
+    check_read(
+        &rt,
+        rt.alloc(),
+        1,
+        sink_of(rt.alloc(), &[])?,
+        b"read failed\n",
+    )?;
+    check_read(
+        &rt,
+        rt.alloc(),
+        5,
+        sink_of(rt.alloc(), &[])?,
+        b"read failed\n",
+    )?;
+    check_read(&rt, rt.alloc(), 1, sink_of(rt.alloc(), &[1])?, b"")
+}
+
+/// Runs with these sinks, and expects a failed write.
+fn check_write(
+    rt: &impl Abort,
+    alloc: Global,
+    output: MemSink,
+    errors: MemSink,
+    written: &[u8],
+    line: &[u8],
+) -> Result<(), Fail> {
+    let mut input = source_of(alloc, SCRIPT, 3, &[])?;
+    check_run(
+        rt,
+        alloc,
+        &[],
+        &mut input,
+        (output, errors),
+        (8, written, line),
+    )
 }
 
 #[test]
 fn tells_a_failed_write(rt: HostRuntime) -> Result<(), Fail> {
     let alloc = rt.alloc();
-    for fails in [false, true] {
-        let mut input = PlainSource::new(SCRIPT.to_vec(alloc)?);
-        let mut output = sink_of(alloc, &[2])?;
-        let mut errors = sink_of(alloc, if fails { &[1] } else { &[] })?;
-        let status = run(alloc, &[], &mut input, &mut output, &mut errors);
-        assert_eq!(rt; status.code(), 8);
-        assert_eq!(rt; output.bytes(), b"q = 2\n".as_slice());
-        let line: &[u8] = if fails { b"" } else { b"write failed\n" };
-        assert_eq!(rt; errors.bytes(), line);
-    }
-    Ok(())
+    let second = sink_of(alloc, &[2])?;
+    check_write(
+        &rt,
+        alloc,
+        second,
+        sink_of(alloc, &[])?,
+        b"q = 2\n",
+        b"write failed\n",
+    )?;
+    let second = sink_of(alloc, &[2])?;
+    check_write(&rt, alloc, second, sink_of(alloc, &[1])?, b"q = 2\n", b"")?;
+    // room for the first text and two bytes of the second
+    let small = MemSink::new(alloc, 8, 4096, Vec::new(alloc))?;
+    check_write(
+        &rt,
+        alloc,
+        small,
+        sink_of(alloc, &[])?,
+        b"q = 2\nn ",
+        b"write failed\n",
+    )
 }
 
 #[test]
 fn takes_short_reads_and_writes(rt: HostRuntime) -> Result<(), Fail> {
     let alloc = rt.alloc();
-    let mut input = FailSource::new(SCRIPT.to_vec(alloc)?, 3, list_of(alloc, &[])?);
-    let mut output = MemSink::new(alloc, 4096, 1, list_of(alloc, &[])?)?;
-    let mut errors = sink_of(alloc, &[])?;
-    let status = run(alloc, &[], &mut input, &mut output, &mut errors);
-    assert_eq!(rt; status.code(), 0);
-    assert_eq!(rt; output.bytes(), b"q = 2\nn = 2\nyes\n".as_slice());
-    // room for the first text and two bytes of the second
-    let mut input = PlainSource::new(SCRIPT.to_vec(alloc)?);
-    let mut output = MemSink::new(alloc, 8, 4096, list_of(alloc, &[])?)?;
-    let status = run(alloc, &[], &mut input, &mut output, &mut errors);
-    assert_eq!(rt; status.code(), 8);
-    assert_eq!(rt; output.bytes(), b"q = 2\nn ".as_slice());
-    Ok(())
+    let mut input = source_of(alloc, SCRIPT, 3, &[])?;
+    let output = MemSink::new(alloc, 4096, 1, Vec::new(alloc))?;
+    let sinks = (output, sink_of(alloc, &[])?);
+    check_run(
+        &rt,
+        alloc,
+        &[],
+        &mut input,
+        sinks,
+        (0, b"q = 2\nn = 2\nyes\n", b""),
+    )
 }

@@ -4,12 +4,11 @@ ghost use Rattle.first_answer.specs.Answer.{IsOutput, truth_text};
 ghost use Rattle.drinfeld_cli.specs.Run.{Says, IsComplete};
 ghost use Rattle.drinfeld_cli.specs.StatusTexts.{fault_text};
 
+use super::status::{SizeKind, Status};
 use first_answer::{Answers, answers_of};
 use ring_core::NoMemory;
 use std::alloc::Global;
 use text_io::{Failed, ReadStop, Sink, Source, read_limited, write_whole};
-
-use super::status::{SizeKind, Status};
 
 /// The most bytes that a script may have.
 pub const SCRIPT_LIMIT: usize = 65536;
@@ -36,10 +35,13 @@ fn answer<I: Source, O: Sink>(
     ensures words { (result ≡ Status.Words) ↔ (words.now ≢ []) }
     ensures untouched { result ≡ Status.Words → input.new ≡ input.old }
     ensures says { Says (record {
-        coming = I.coming input.old; left = I.coming input.new;
-        before = O.written output.old; after = O.written output.new;
-        read_failed = Rose (I.faults input.old) (I.faults input.new);
-        write_failed = Rose (O.faults output.old) (O.faults output.new) }) result }
+      coming = I.coming input.old;
+      left = I.coming input.new;
+      before = O.written output.old;
+      after = O.written output.new;
+      read_failed = Rose (I.faults input.old) (I.faults input.new);
+      write_failed = Rose (O.faults output.old) (O.faults output.new);
+    }) result }
 {
     if !words.is_empty() {
         return Status::Words;
@@ -81,15 +83,21 @@ pub fn run<I: Source, O: Sink, E: Sink>(
     ensures words { (result ≡ Status.Words) ↔ (words.now ≢ []) }
     ensures untouched { result ≡ Status.Words → input.new ≡ input.old }
     ensures says { Says (record {
-        coming = I.coming input.old; left = I.coming input.new;
-        before = O.written output.old; after = O.written output.new;
-        read_failed = Rose (I.faults input.old) (I.faults input.new);
-        write_failed = Rose (O.faults output.old) (O.faults output.new) }) result }
+      coming = I.coming input.old;
+      left = I.coming input.new;
+      before = O.written output.old;
+      after = O.written output.new;
+      read_failed = Rose (I.faults input.old) (I.faults input.new);
+      write_failed = Rose (O.faults output.old) (O.faults output.new);
+    }) result }
     ensures complete { words.now ≡ [] → IsComplete (record {
-        coming = I.coming input.old; left = I.coming input.new;
-        before = O.written output.old; after = O.written output.new;
-        read_failed = Rose (I.faults input.old) (I.faults input.new);
-        write_failed = Rose (O.faults output.old) (O.faults output.new) }) result }
+      coming = I.coming input.old;
+      left = I.coming input.new;
+      before = O.written output.old;
+      after = O.written output.new;
+      read_failed = Rose (I.faults input.old) (I.faults input.new);
+      write_failed = Rose (O.faults output.old) (O.faults output.new);
+    }) result }
     ensures told { (n : ℕ) × (E.written errors.new ≡ with_back (E.written errors.old) (take n (fault_text result))) }
     ensures whole { (Rose (E.faults errors.old) (E.faults errors.new) → ⊥)
         → E.written errors.new ≡ with_back (E.written errors.old) (fault_text result) }
