@@ -1,7 +1,6 @@
 pub mod Sums
 pub mod Spans
 pub mod Slots
-pub mod Unique
 pub mod Insert
 pub mod Augment
 pub mod Lift
