@@ -1,32 +1,30 @@
 -- The kernel of a linear map of residues, from the relations of the rows of its coefficients.
-use Rattle.std.proofs.Common.{◌≡◌, ℕ, suc, ◌+◌, ◌-◌, ◌<◌, ◌≤◌, ◌⊎◌, inl, inr, Bool, true, false, List, length, get_or, sym, refl, ap, ap₂, subst, ◌∙◌, arith, eq-eqb, [], ◌∷◌, ◌++◌, zero, take, get_or-take, Option, Some, None, MatchOption, nat_eq, cond}
+use Rattle.std.proofs.Common.{◌≡◌, ℕ, suc, ◌+◌, ◌-◌, ◌<◌, ◌≤◌, inl, inr, Bool, true, false, List, length, get_or, sym, refl, ap, ap₂, subst, ◌∙◌, arith, eq-eqb, [], ◌∷◌, ◌++◌, zero, take, get_or-take, Option, Some, None, MatchOption, nat_eq, cond}
 use Rattle.std.proofs.lemmas.List.{length-take-le}
 use Rattle.std.proofs.lemmas.Bool.{and_from, cases_lt, cond_both}
 use Rattle.ring_core.specs.Ring.{RingOps, IsElem, IsRing}
-use Rattle.ring_core.specs.Coeffs.{coeff, are_elems, sum_below, first_values}
-use Rattle.ring_core.specs.Powers.{power_of}
-use Rattle.ring_core.proofs.Carrier.{Element, elements, mul_zero}
-use Rattle.ring_core.proofs.Coefficients.{elem_read, coeff_past, coeff-first_values, length-first_values, elems-first_values, values_by_coeffs}
+use Rattle.ring_core.specs.Coeffs.{coeff, sum_below, first_values}
+use Rattle.ring_core.proofs.Carrier.{elements, mul_zero}
+use Rattle.ring_core.proofs.Coefficients.{coeff-first_values, length-first_values, elems-first_values, values_by_coeffs}
 use Rattle.ring_core.proofs.Twist.{sum_of_zeros, sum_same}
-use Rattle.linear_algebra.specs.Combines.{combined, Combines}
+use Rattle.linear_algebra.specs.Combines.{combined}
 use Rattle.linear_algebra.specs.Linear.{row_at, entry, is_row, are_rows, IsCombination, IsRelation, IsEchelonBasis}
-use Rattle.linear_algebra.proofs.RowLists.{row_len, row_elems, rows_at, rows_by_places, rows_in}
+use Rattle.linear_algebra.proofs.RowLists.{rows_at, rows_by_places, rows_in}
 use Rattle.linear_algebra.proofs.Lift.{combines_row}
 use Rattle.fq_linear.proofs.Tables.{length-values, at-first_values}
 use Rattle.residue_field.specs.declared.TopElem.{TopElem}
 use Rattle.residue_field.specs.declared.TheConstants.{WIDTH}
-use Rattle.residue_field.specs.Residue.{residue_unit, IsPlaces}
+use Rattle.residue_field.specs.Residue.{IsPlaces}
 use Rattle.residue_field.specs.TopElem.{top_places}
 use Rattle.residue_field.specs.Base.{Base, ops_of, size_of}
 use Rattle.residue_field.specs.Top.{top_ops}
 use Rattle.residue_field.proofs.BaseLaws.{base_ring}
 use Rattle.residue_field.proofs.TopLaws.{IsTopShape, top_shape_ring, top_stored}
-use Rattle.residue_field.proofs.Coordinates.{unit-in}
 use Rattle.residue_field.proofs.Acceptance.{top_power_places, top_moved_places}
 use Rattle.finite_ring.proofs.FieldOf.{power_in}
-use Rattle.field_tower.specs.Places.{IsModulus, IsStored, stored}
-use Rattle.field_tower.specs.Kernel.{image_of, top_image, letter_power, image_row, IsLow, row_residue, AreLow, IsAbove, HasLowKernel, IsInKernel}
-use Rattle.field_tower.proofs.Stored.{stored_in, stored-low, stored-past}
+use Rattle.field_tower.specs.Places.{IsModulus, IsStored}
+use Rattle.field_tower.specs.Kernel.{image_of, top_image, letter_power, image_row, row_residue, AreLow, IsAbove, HasLowKernel, IsInKernel}
+use Rattle.field_tower.proofs.Stored.{stored_in, stored-low}
 use Rattle.field_tower.proofs.TopValues.{shape_from, elem_of, stored_of}
 
 -- a place below the length, with any element for a place past it

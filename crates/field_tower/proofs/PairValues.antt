@@ -1,5 +1,5 @@
 -- What acceptance finds of residues: zero and constants by their places, and pairs.
-use Rattle.std.proofs.Common.{inl, inr, ◌≡◌, ◌≢◌, ℕ, zero, suc, ◌+◌, ◌-◌, ◌<◌, ◌≤◌, Bool, true, false, List, length, sym, refl, ap, ap₂, subst, ◌∙◌, arith}
+use Rattle.std.proofs.Common.{inl, inr, ◌≡◌, ◌≢◌, ℕ, zero, suc, ◌+◌, ◌-◌, ◌<◌, ◌≤◌, true, false, List, length, sym, refl, ap, subst, ◌∙◌, arith}
 use Rattle.ring_core.specs.Ring.{IsElem, IsRing}
 use Rattle.ring_core.specs.Coeffs.{coeff}
 use Rattle.ring_core.specs.Powers.{power_of}
@@ -18,10 +18,9 @@ use Rattle.residue_field.proofs.TopLaws.{IsTopShape, top_shape_ring, top_shape_o
 use Rattle.residue_field.proofs.TopFrob.{top_shape_accepted}
 use Rattle.residue_field.proofs.Acceptance.{top_roots_product}
 use Rattle.field_tower.specs.Places.{IsModulus, IsStored, stored}
-use Rattle.field_tower.specs.Kernel.{IsLow, HasLowKernel, IsNonzero}
-use Rattle.field_tower.specs.Pairs.{IsPair}
-use Rattle.field_tower.proofs.TopValues.{shape_from, elem_of, stored_of}
-use Rattle.field_tower.proofs.Kernels.{residue_same, residue_past, residue_place_in, zero_place, degree_positive, place_next}
+use Rattle.field_tower.specs.Kernel.{IsLow, HasLowKernel}
+use Rattle.field_tower.proofs.TopValues.{shape_from, elem_of}
+use Rattle.field_tower.proofs.Kernels.{residue_same, residue_past, residue_place_in, zero_place, place_next}
 
 module _ (base : Base) (n : ℕ) (modulus : List ℕ) (len : length modulus ≡ n + 1) (monic : IsModulus (ops_of base) modulus) where
   shape : IsTopShape base (n - 1) modulus

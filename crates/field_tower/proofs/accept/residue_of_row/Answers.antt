@@ -1,9 +1,8 @@
-use Rattle.std.proofs.Common.{◌≡◌, ◌≢◌, ◌+◌, ◌-◌, ◌<◌, ◌≤◌, suc, length, length-set, sym, subst, ◌∙◌, arith}
+use Rattle.std.proofs.Common.{◌≡◌, ◌≢◌, ◌+◌, ◌-◌, ◌<◌, ◌≤◌, suc, length, length-set, ◌∙◌, arith}
 use Rattle.linear_algebra.specs.Linear.{row_at, entry}
 use Rattle.linear_algebra.proofs.RowLists.{row_len, rows_at}
 use Rattle.residue_field.specs.declared.TheConstants.{WIDTH}
 use Rattle.residue_field.specs.Base.{ops_of}
-use Rattle.field_tower.specs.Places.{stored}
 use Rattle.field_tower.proofs.Writes.{written, unwritten}
 use Rattle.field_tower.proofs.Stored.{stored_from}
 use Rattle.field_tower.proofs.Kernels.{place_read}

@@ -1,4 +1,4 @@
-use Rattle.std.proofs.Common.{◌≡◌, ℕ, suc, ◌+◌, ◌-◌, ◌<◌, ◌≤◌, sym, ap, ap₂, subst, ◌∙◌, arith, lt-ltb}
+use Rattle.std.proofs.Common.{◌≡◌, suc, ◌+◌, ◌-◌, ◌<◌, ◌≤◌, sym, ap, ap₂, subst, ◌∙◌, arith, lt-ltb}
 use Rattle.ring_core.specs.Ring.{IsElem}
 use Rattle.finite_ring.specs.Finite.{root_product}
 use Rattle.residue_field.specs.Residue.{constant_at}

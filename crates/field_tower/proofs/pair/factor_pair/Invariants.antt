@@ -1,4 +1,4 @@
-use Rattle.std.proofs.Common.{◌≡◌, ◌≢◌, ℕ, ◌-◌}
+use Rattle.std.proofs.Common.{◌≡◌, ◌≢◌, ◌-◌}
 use Rattle.ring_core.specs.Ring.{IsElem}
 use Rattle.finite_ring.specs.Finite.{root_product}
 use Rattle.residue_field.specs.Residue.{constant_at}
