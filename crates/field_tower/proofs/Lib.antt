@@ -7,3 +7,5 @@ pub mod CodeDigits
 pub mod BaseValues
 pub mod BaseTables
 pub mod TopValues
+pub mod Kernels
+pub mod PairValues

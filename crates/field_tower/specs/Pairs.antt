@@ -1,5 +1,5 @@
 -- Two nonzero elements whose product is zero.
-use Rattle.std.specs.Prelude.{◌≡◌, ◌≢◌, ℕ, ◌+◌, ◌*◌, ◌/◌, ◌%◌, ◌<◌, List, slice_index}
+use Rattle.std.specs.Prelude.{◌≡◌, ◌≢◌, ℕ, ◌+◌, ◌*◌, ◌<◌, List, slice_index}
 use Rattle.ring_core.specs.Ring.{RingOps, IsElem}
 
 -- `a` and `b` aren't zero, and their product is.
@@ -9,11 +9,6 @@ pub record IsPair {E : Type 0} (r : RingOps E) (a b : E) : Type 0 where
   pub left_nonzero : a ≢ r.zero
   pub right_nonzero : b ≢ r.zero
   pub product_zero : r.mul a b ≡ r.zero
-
--- The pair of number `m`, of the `count` elements that `elem` counts, isn't one of two nonzero
--- elements whose product is zero.
-abbrev pub PassesAt : {E : Type 0} → RingOps E → (ℕ → E) → ℕ → ℕ → Type 0
-PassesAt r elem count m = IsPair r (elem (m / count)) (elem (m % count)) → ⊥
 
 -- No two nonzero codes have a zero in the table of the products of the codes below `q`.
 abbrev pub HasNoZero : ℕ → List ℕ → Type 0

@@ -5,8 +5,6 @@ use Rattle.ring_core.specs.Coeffs.{coeff, are_elems}
 use Rattle.residue_field.specs.declared.TopElem.{TopElem}
 use Rattle.residue_field.specs.declared.TheConstants.{WIDTH}
 use Rattle.residue_field.specs.Residue.{residue_ops}
-use Rattle.residue_field.specs.Digits.{digit}
-use Rattle.residue_field.specs.Base.{Base, ops_of, size_of}
 use Rattle.residue_field.specs.TopElem.{top_places}
 
 -- The modulus is monic, of a degree from 1 to `WIDTH`.
@@ -27,7 +25,3 @@ stored r d g = (top_places r d).pack g
 -- The ring of the residues modulo `modulus`.
 unfoldable pub stored_ops : RingOps ℕ → List ℕ → RingOps TopElem
 stored_ops r modulus = residue_ops r (length modulus - 2) (coeff r modulus) (top_places r (length modulus - 2))
-
--- The residue of degree below `n` over `base` whose coefficients are the digits of `k`.
-abbrev pub residue_at : Base → ℕ → ℕ → TopElem
-residue_at base n k = stored (ops_of base) (n - 1) (digit (size_of base) k)

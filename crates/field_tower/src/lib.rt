@@ -4,9 +4,11 @@
 //! residues multiply to zero.
 #![tactic(auto)]
 
+mod accept;
 mod base;
 mod codes;
 mod fault;
+mod pair;
 mod places;
 mod prime;
 mod residues;

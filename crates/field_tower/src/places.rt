@@ -44,7 +44,7 @@ pub(crate) fn equal<F: Field<Elem = Code>>(field: &F, a: TopElem, b: TopElem) ->
 }
 
 /// Zero at each place.
-fn zeros<F: Field<Elem = Code>>(field: &F) -> [Code; WIDTH]
+pub(crate) fn zeros<F: Field<Elem = Code>>(field: &F) -> [Code; WIDTH]
     ensures values { (i : ℕ) → coeff (F.ops field.now) result i ≡ (F.ops field.now).zero }
     ensures elems { are_elems (F.ops field.now) result ≡ true }
 {

@@ -1,30 +1,7 @@
-ghost use Rattle.std.specs.Prelude.{◌≡◌, ◌^◌, ◌≤◌, true};
-ghost use Rattle.residue_field.specs.declared.TheConstants.{WIDTH};
-ghost use Rattle.residue_field.specs.Base.{size_of};
-ghost use Rattle.field_tower.specs.declared.size.TheConstants.{CODES};
-
-use super::size::size;
 use super::*;
 use ring_core::lists::all_elems;
 use ring_core::{Field, FrobField};
 use std::test::Fail;
-
-/// Whether the residues modulo a polynomial of degree `n` are few enough to try all pairs.
-fn are_few(field: &BaseField, n: u32) -> bool
-    ensures { result ≡ true → n ≤ WIDTH → size_of field.now ^ n ≤ CODES }
-{
-    let q = field.q() as usize;
-    if n as usize > WIDTH {
-        return true;
-    }
-    if q < 2 {
-        return false;
-    }
-    match size(q, n as usize) {
-        Some(_) => true,
-        None => false,
-    }
-}
 
 /// The name of what `BaseField::make` answers, and the size of the field or the codes of the pair.
 fn base_answer(rt: &HostRuntime, p: u32, s: u32, modulus: &[u32]) -> (&'static str, u32, u32) {
@@ -87,7 +64,7 @@ fn top_of_four(rt: HostRuntime) -> Result<(), Fail> {
     }
     // K = F_4[z] / (z^2 + z + a)
     let modulus = [2, 1, 1];
-    assert!(rt; all_elems(&field, &modulus) && are_few(&field, 2));
+    assert!(rt; all_elems(&field, &modulus));
     let Ok(tower) = Tower::make(rt.alloc(), field, 2, &modulus) else {
         return Err(Fail::new("F_16"));
     };
@@ -125,7 +102,7 @@ fn tower_answer(
     let Ok(field) = BaseField::make(rt.alloc(), p, 1, &[0, 1]) else {
         return ("no base", 0, 0, 0, 0);
     };
-    if !all_elems(&field, modulus) || !are_few(&field, n) {
+    if !all_elems(&field, modulus) {
         return ("out of range", 0, 0, 0, 0);
     }
     match Tower::make(rt.alloc(), field, n, modulus) {
@@ -154,10 +131,24 @@ fn top_fields_and_refusals(rt: HostRuntime) {
     assert_eq!(rt; tower_answer(&rt, 3, 1, &[1, 1]), ("field", 2, 0, 0, 0));
     assert_eq!(rt; tower_answer(&rt, 3, 2, &[1, 0, 1]), ("field", 0, 1, 0, 0));
     // z^2 + 1 = (z + 2) (z + 3) over F_5
-    assert_eq!(rt; tower_answer(&rt, 5, 2, &[1, 0, 1]), ("pair", 2, 1, 3, 1));
+    assert_eq!(rt; tower_answer(&rt, 5, 2, &[1, 0, 1]), ("pair", 3, 1, 2, 1));
+    // z^250 = 1 modulo z^2 - 1 over F_251: z (z - 1) .. (z - 249) = 126 (z - 1), by Wilson's theorem
+    assert_eq!(rt;
+        tower_answer(&rt, 251, 2, &[250, 0, 1]),
+        ("pair", 125, 126, 1, 1)
+    );
     // z^4 + z^2 + 1 = (z^2 + z + 1)^2 over F_2, without a root
     assert_eq!(rt;
         tower_answer(&rt, 2, 4, &[1, 0, 1, 0, 1]),
         ("pair", 1, 1, 1, 1)
+    );
+    // 4096 residues: a field, and one with z^6 z^6 = 0
+    assert_eq!(rt;
+        tower_answer(&rt, 2, 12, &[1, 0, 0, 1, 0, 0, 0, 0, 0, 0, 0, 0, 1]),
+        ("field", 0, 1, 0, 0)
+    );
+    assert_eq!(rt;
+        tower_answer(&rt, 2, 12, &[0, 0, 0, 0, 0, 0, 0, 0, 0, 0, 0, 0, 1]),
+        ("pair", 0, 0, 0, 0)
     );
 }

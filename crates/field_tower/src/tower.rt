@@ -1,23 +1,17 @@
-ghost use Rattle.std.specs.Prelude.{◌≡◌, ◌-◌, ◌+◌, ◌<◌, ◌≤◌, ◌^◌, MatchOption, length, true};
-ghost use Rattle.ring_core.specs.Ring.{IsElem};
+ghost use Rattle.std.specs.Prelude.{◌≡◌, true};
 ghost use Rattle.ring_core.specs.Coeffs.{are_elems};
-ghost use Rattle.finite_ring.specs.Finite.{HasNoPair};
 ghost use Rattle.residue_field.specs.Base.{ops_of, size_of};
 ghost use Rattle.residue_field.specs.Top.{Top, IsTop, top_ops, top_code, ops_of_top, inverse_of_top, frob_of_top, letter_of};
 ghost use Rattle.residue_field.proofs.TopLaws.{top_field};
 ghost use Rattle.residue_field.proofs.TopFrob.{top_frob_field};
-ghost use Rattle.field_tower.specs.declared.size.TheConstants.{CODES};
 ghost use Rattle.residue_field.specs.declared.TheConstants.{WIDTH};
-ghost use Rattle.field_tower.specs.Places.{IsModulus, residue_at};
-ghost use Rattle.field_tower.specs.Pairs.{IsPair, PassesAt};
 
+use super::accept::find_pair;
 use super::base::BaseField;
-use super::codes::digits;
 use super::fault::TowerFault;
 use super::places;
-use super::size::size;
 use residue_field::{Code, TopElem, WIDTH};
-use ring_core::{Field, FrobField};
+use ring_core::{Field, FrobField, NoMemory};
 use std::alloc::Global;
 use std::marker::Model;
 
@@ -48,58 +42,6 @@ pub struct TowerRefused {
     pub why: TowerFault,
 }
 
-/// The residues of numbers `m / count` and `m % count`, where they aren't zero and their product is.
-fn pair_at(
-    base: &BaseField,
-    n: usize,
-    count: usize,
-    modulus: &[Code],
-    m: usize,
-) -> Option<(TopElem, TopElem)>
-    requires monic { IsModulus (ops_of base.now) modulus.now }
-    requires degree { length modulus.now ≡ n + 1 }
-    requires count { count ≡ size_of base.now ^ n }
-    ensures { MatchOption result (PassesAt (top_ops base.now (n - 1) modulus.now) (residue_at base.now n) count m) (λ pair. IsPair (top_ops base.now (n - 1) modulus.now) pair.0 pair.1) }
-{
-    let q = base.q() as usize;
-    let a = digits(q, n, m / count);
-    let b = digits(q, n, m % count);
-    if places::is_zero(base, a) {
-        return None;
-    }
-    if places::is_zero(base, b) {
-        return None;
-    }
-    let product = places::mul(base, modulus, a, b);
-    if places::is_zero(base, product) {
-        Some((a, b))
-    } else {
-        None
-    }
-}
-
-/// Two nonzero residues modulo `modulus` of degree `n` whose product is zero, None where there are
-/// none; there are `count` residues.
-fn find_pair(
-    base: &BaseField,
-    n: usize,
-    count: usize,
-    modulus: &[Code],
-) -> Option<(TopElem, TopElem)>
-    requires monic { IsModulus (ops_of base.now) modulus.now }
-    requires degree { length modulus.now ≡ n + 1 }
-    requires count { count ≡ size_of base.now ^ n }
-    requires small { count ≤ CODES }
-    ensures { MatchOption result (HasNoPair (top_ops base.now (n - 1) modulus.now)) (λ pair. IsPair (top_ops base.now (n - 1) modulus.now) pair.0 pair.1) }
-{
-    for m in 0..count * count {
-        if let Some(pair) = pair_at(base, n, count, modulus, m) {
-            return Some(pair);
-        }
-    }
-    None
-}
-
 impl Tower {
     ghost use Rattle.field_tower.specs.MakeTop.{MakesTop};
 
@@ -107,8 +49,8 @@ impl Tower {
     /// coefficient first. The refusals come in this order: `TooLarge` where `n` is 0 or more than
     /// `WIDTH`; `BadModulus` where the list hasn't `n + 1` members or the last isn't 1; `ZeroDivisors`
     /// where two nonzero residues multiply to zero, with such a pair; and `NoMemory` where memory is
-    /// refused. Each hands the base field back unchanged. Every pair of residues is tried, so there may
-    /// be at most `CODES` residues.
+    /// refused. Each hands the base field back unchanged. No pairs are tried: the answer is found by two
+    /// linear systems of `n` rows over the base.
     pub fn make(
         alloc: Global,
         base: BaseField,
@@ -116,7 +58,6 @@ impl Tower {
         modulus: &[Code],
     ) -> Result<Tower, TowerRefused>
         requires members { are_elems (ops_of base) modulus.now ≡ true }
-        requires few { n ≤ WIDTH → size_of base ^ n ≤ CODES }
         ensures { MakesTop base n modulus.now result }
     {
         let degree = n as usize;
@@ -132,14 +73,20 @@ impl Tower {
                 why: TowerFault::BadModulus,
             });
         }
-        let Some(count) = size(base.q() as usize, degree) else {
-            unreachable!()
-        };
-        if let Some((a, b)) = find_pair(&base, degree, count, modulus) {
-            return Err(TowerRefused {
-                base,
-                why: TowerFault::ZeroDivisors { a, b },
-            });
+        match find_pair(alloc, &base, degree, modulus) {
+            Ok(None) => (),
+            Ok(Some((a, b))) => {
+                return Err(TowerRefused {
+                    base,
+                    why: TowerFault::ZeroDivisors { a, b },
+                });
+            }
+            Err(NoMemory) => {
+                return Err(TowerRefused {
+                    base,
+                    why: TowerFault::NoMemory,
+                });
+            }
         }
         let Ok(modulus) = Vec::from_slice(alloc, modulus) else {
             return Err(TowerRefused {
