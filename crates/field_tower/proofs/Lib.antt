@@ -7,3 +7,4 @@ pub mod CodeDigits
 pub mod BaseValues
 pub mod BaseTables
 pub mod TopValues
+pub mod FrobMap

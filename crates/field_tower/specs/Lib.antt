@@ -2,3 +2,4 @@ pub mod Places
 pub mod Pairs
 pub mod MakeBase
 pub mod MakeTop
+pub mod Images

@@ -7,6 +7,7 @@
 mod base;
 mod codes;
 mod fault;
+mod frobenius;
 mod places;
 mod prime;
 mod residues;

@@ -44,7 +44,7 @@ pub(crate) fn equal<F: Field<Elem = Code>>(field: &F, a: TopElem, b: TopElem) ->
 }
 
 /// Zero at each place.
-fn zeros<F: Field<Elem = Code>>(field: &F) -> [Code; WIDTH]
+pub(crate) fn zeros<F: Field<Elem = Code>>(field: &F) -> [Code; WIDTH]
     ensures values { (i : ℕ) → coeff (F.ops field.now) result i ≡ (F.ops field.now).zero }
     ensures elems { are_elems (F.ops field.now) result ≡ true }
 {
@@ -152,25 +152,6 @@ pub(crate) fn power<F: Field<Elem = Code>>(
     } else {
         mul(field, modulus, square, a)
     }
-}
-
-/// The power of the residue `a` by `q^i`.
-pub(crate) fn power_by_size<F: Field<Elem = Code>>(
-    field: &F,
-    modulus: &[Code],
-    a: TopElem,
-    q: u32,
-    i: usize,
-) -> TopElem
-    requires monic { IsModulus (F.ops field.now) modulus.now }
-    requires elem { IsElem (stored_ops (F.ops field.now) modulus.now) a }
-    ensures { result ≡ power_of (stored_ops (F.ops field.now) modulus.now) a (q ^ i) }
-{
-    let mut result = a;
-    for _j in 0..i {
-        result = power(field, modulus, result, q);
-    }
-    result
 }
 
 /// The power of the residue `a` by `q^n - 2`, in base `q`: each digit of the exponent is `q - 1`, but

@@ -1,6 +1,6 @@
-ghost use Rattle.std.specs.Prelude.{◌≡◌, ◌-◌, ◌+◌, ◌<◌, ◌≤◌, ◌^◌, MatchOption, length, true};
+ghost use Rattle.std.specs.Prelude.{◌≡◌, ◌-◌, ◌+◌, ◌*◌, ◌<◌, ◌≤◌, ◌^◌, MatchOption, length, true};
 ghost use Rattle.ring_core.specs.Ring.{IsElem};
-ghost use Rattle.ring_core.specs.Coeffs.{are_elems};
+ghost use Rattle.ring_core.specs.Coeffs.{are_elems, first_values};
 ghost use Rattle.finite_ring.specs.Finite.{HasNoPair};
 ghost use Rattle.residue_field.specs.Base.{ops_of, size_of};
 ghost use Rattle.residue_field.specs.Top.{Top, IsTop, top_ops, top_code, ops_of_top, inverse_of_top, frob_of_top, letter_of};
@@ -10,10 +10,12 @@ ghost use Rattle.field_tower.specs.declared.size.TheConstants.{CODES};
 ghost use Rattle.residue_field.specs.declared.TheConstants.{WIDTH};
 ghost use Rattle.field_tower.specs.Places.{IsModulus, residue_at};
 ghost use Rattle.field_tower.specs.Pairs.{IsPair, PassesAt};
+ghost use Rattle.field_tower.specs.Images.{image_of};
 
 use super::base::BaseField;
 use super::codes::digits;
 use super::fault::TowerFault;
+use super::frobenius::{combination, images};
 use super::places;
 use super::size::size;
 use residue_field::{Code, TopElem, WIDTH};
@@ -28,7 +30,9 @@ pub struct Tower {
     base: BaseField,
     n: u32,
     modulus: Vec<Code>,
+    images: Vec<TopElem>,
     ghost is_top: { IsTop base n modulus.items },
+    ghost images_are: { images.items ≡ first_values (n * n) (image_of base n modulus.items) },
 }
 
 impl Model for Tower {
@@ -141,13 +145,24 @@ impl Tower {
                 why: TowerFault::ZeroDivisors { a, b },
             });
         }
+        let Ok(images) = images(alloc, &base, degree, modulus) else {
+            return Err(TowerRefused {
+                base,
+                why: TowerFault::NoMemory,
+            });
+        };
         let Ok(modulus) = Vec::from_slice(alloc, modulus) else {
             return Err(TowerRefused {
                 base,
                 why: TowerFault::NoMemory,
             });
         };
-        Ok(Tower { base, n, modulus })
+        Ok(Tower {
+            base,
+            n,
+            modulus,
+            images,
+        })
     }
 
     /// The residue of the polynomial `z`.
@@ -232,7 +247,8 @@ impl FrobField for Tower {
     }
 
     fn frob(&self, c: TopElem, i: usize) -> TopElem {
-        places::power_by_size(&self.base, &self.modulus, c, self.base.q(), i)
+        let n = self.n as usize;
+        combination(&self.base, n, &self.images, i % n * n, c)
     }
 
     fn coord(&self, c: TopElem, j: usize) -> Code {
