@@ -9,3 +9,4 @@ pub mod BaseTables
 pub mod TopValues
 pub mod Kernels
 pub mod PairValues
+pub mod FrobMap

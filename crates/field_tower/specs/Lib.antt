@@ -3,3 +3,4 @@ pub mod Pairs
 pub mod MakeBase
 pub mod MakeTop
 pub mod Kernel
+pub mod Images

@@ -9,6 +9,7 @@ mod base;
 mod codes;
 mod fault;
 mod pair;
+mod frobenius;
 mod places;
 mod prime;
 mod residues;

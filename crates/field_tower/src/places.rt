@@ -154,25 +154,6 @@ pub(crate) fn power<F: Field<Elem = Code>>(
     }
 }
 
-/// The power of the residue `a` by `q^i`.
-pub(crate) fn power_by_size<F: Field<Elem = Code>>(
-    field: &F,
-    modulus: &[Code],
-    a: TopElem,
-    q: u32,
-    i: usize,
-) -> TopElem
-    requires monic { IsModulus (F.ops field.now) modulus.now }
-    requires elem { IsElem (stored_ops (F.ops field.now) modulus.now) a }
-    ensures { result ≡ power_of (stored_ops (F.ops field.now) modulus.now) a (q ^ i) }
-{
-    let mut result = a;
-    for _j in 0..i {
-        result = power(field, modulus, result, q);
-    }
-    result
-}
-
 /// The power of the residue `a` by `q^n - 2`, in base `q`: each digit of the exponent is `q - 1`, but
 /// the lowest is `q - 2`.
 pub(crate) fn power_less_two<F: Field<Elem = Code>>(

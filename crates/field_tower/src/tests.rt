@@ -77,6 +77,11 @@ fn top_of_four(rt: HostRuntime) -> Result<(), Fail> {
     let power = tower.frob(z, 1);
     assert!(rt; tower.is_elem(power));
     assert_eq!(rt; (tower.coord(power, 0), tower.coord(power, 1)), (1, 1));
+    for i in [3, 1_000_001] {
+        let power = tower.frob(z, i);
+        assert!(rt; tower.is_elem(power));
+        assert_eq!(rt; (tower.coord(power, 0), tower.coord(power, 1)), (1, 1));
+    }
     let again = tower.frob(z, 2);
     assert!(rt; tower.is_elem(again));
     assert!(rt; tower.equal(again, z));

@@ -1,14 +1,16 @@
-ghost use Rattle.std.specs.Prelude.{◌≡◌, true};
-ghost use Rattle.ring_core.specs.Coeffs.{are_elems};
+ghost use Rattle.std.specs.Prelude.{◌≡◌, ◌-◌, ◌+◌, ◌*◌, ◌<◌, ◌≤◌, ◌^◌, true};
+ghost use Rattle.ring_core.specs.Coeffs.{are_elems, first_values};
 ghost use Rattle.residue_field.specs.Base.{ops_of, size_of};
 ghost use Rattle.residue_field.specs.Top.{Top, IsTop, top_ops, top_code, ops_of_top, inverse_of_top, frob_of_top, letter_of};
 ghost use Rattle.residue_field.proofs.TopLaws.{top_field};
 ghost use Rattle.residue_field.proofs.TopFrob.{top_frob_field};
 ghost use Rattle.residue_field.specs.declared.TheConstants.{WIDTH};
+ghost use Rattle.field_tower.specs.Images.{image_of};
 
 use super::accept::find_pair;
 use super::base::BaseField;
 use super::fault::TowerFault;
+use super::frobenius::{combination, images};
 use super::places;
 use residue_field::{Code, TopElem, WIDTH};
 use ring_core::{Field, FrobField, NoMemory};
@@ -22,7 +24,9 @@ pub struct Tower {
     base: BaseField,
     n: u32,
     modulus: Vec<Code>,
+    images: Vec<TopElem>,
     ghost is_top: { IsTop base n modulus.items },
+    ghost images_are: { images.items ≡ first_values (n * n) (image_of base n modulus.items) },
 }
 
 impl Model for Tower {
@@ -88,13 +92,24 @@ impl Tower {
                 });
             }
         }
+        let Ok(images) = images(alloc, &base, degree, modulus) else {
+            return Err(TowerRefused {
+                base,
+                why: TowerFault::NoMemory,
+            });
+        };
         let Ok(modulus) = Vec::from_slice(alloc, modulus) else {
             return Err(TowerRefused {
                 base,
                 why: TowerFault::NoMemory,
             });
         };
-        Ok(Tower { base, n, modulus })
+        Ok(Tower {
+            base,
+            n,
+            modulus,
+            images,
+        })
     }
 
     /// The residue of the polynomial `z`.
@@ -179,7 +194,8 @@ impl FrobField for Tower {
     }
 
     fn frob(&self, c: TopElem, i: usize) -> TopElem {
-        places::power_by_size(&self.base, &self.modulus, c, self.base.q(), i)
+        let n = self.n as usize;
+        combination(&self.base, n, &self.images, i % n * n, c)
     }
 
     fn coord(&self, c: TopElem, j: usize) -> Code {

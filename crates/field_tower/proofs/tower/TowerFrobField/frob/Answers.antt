@@ -1,20 +1,33 @@
-use Rattle.std.proofs.Common.{◌^◌, sym, ap, subst, ◌∙◌}
-use Rattle.ring_core.specs.Ring.{IsElem}
-use Rattle.ring_core.specs.Powers.{power_of}
-use Rattle.residue_field.specs.Base.{size_of}
-use Rattle.residue_field.specs.Top.{ops_of_top}
-use Rattle.field_tower.proofs.TopValues.{ops-inside}
+use Rattle.std.proofs.Common.{◌≡◌, ◌%◌, ◌<◌, true, sym, subst, ◌∙◌, arith}
+use Rattle.ring_core.specs.Coeffs.{are_elems}
+use Rattle.residue_field.specs.Base.{ops_of}
+use Rattle.residue_field.specs.Top.{Top}
+use Rattle.field_tower.proofs.TopValues.{top_elems}
+use Rattle.field_tower.proofs.FrobMap.{images_elems, row_inside, frob_inside}
 use Rattle.field_tower.proofs.tower.TowerFrobField.frob.Goals as goal
 
-pub power_by_size-requires-clause-elem : goal.power_by_size-requires-clause-elem
-power_by_size-requires-clause-elem c =
-    subst (λ r. IsElem r c.args.c) (sym (ops-inside _ c.args.self.now c.self.view_is _ c.deref.ensures.value)) c.requires
+pub combination-requires-clause-coeffs : goal.combination-requires-clause-coeffs
+combination-requires-clause-coeffs c =
+    let a = c.args.c in
+    subst (λ t. are_elems (ops_of t.base) a.0 ≡ true) (sym c.self.view_is) (top_elems c.args.self.now a c.requires)
+
+pub combination-requires-clause-images : goal.combination-requires-clause-images
+combination-requires-clause-images c =
+    let inside = c.self.inside in
+    let here : Top = record { base = inside.base; n = inside.n; modulus = inside.modulus.items; is_top = inside.is_top } in
+    images_elems here _ (c.deref.ensures.value ∙ inside.images_are)
+
+pub combination-requires-clause-row : goal.combination-requires-clause-row
+combination-requires-clause-row c =
+    let inside = c.self.inside in
+    let here : Top = record { base = inside.base; n = inside.n; modulus = inside.modulus.items; is_top = inside.is_top } in
+    let positive : 0 < inside.n = inside.is_top.0 in
+    let low : c.args.i % inside.n < inside.n = omega arith in
+    row_inside here _ (c.deref.ensures.value ∙ inside.images_are) (c.args.i % inside.n) low
 
 pub returns : goal.returns
 returns c =
-    let a = c.args.c in
-    let i = c.args.i in
-    c.power_by_size.ensures
-    ∙ ap (λ r. power_of r a (c.q.result ^ i)) (ops-inside _ c.args.self.now c.self.view_is _ c.deref.ensures.value)
-    ∙ ap (λ q. power_of (ops_of_top c.args.self.now) a (q ^ i)) c.q.ensures.value
-    ∙ ap (λ t. power_of (ops_of_top c.args.self.now) a (size_of t.base ^ i)) c.self.view_is
+    let inside = c.self.inside in
+    let here : Top = record { base = inside.base; n = inside.n; modulus = inside.modulus.items; is_top = inside.is_top } in
+    c.combination.ensures
+    ∙ frob_inside here _ (c.deref.ensures.value ∙ inside.images_are) c.args.self.now c.self.view_is c.args.c c.args.i c.requires

@@ -1,0 +1,139 @@
+-- The Frobenius of a top field from the images of the powers of the letter.
+use Rattle.std.proofs.Common.{◌≡◌, ℕ, zero, suc, ◌+◌, ◌-◌, ◌*◌, ◌/◌, ◌%◌, ◌^◌, ◌<◌, ◌≤◌, nat_eq, true, List, length, sym, refl, ap, ap₂, subst, ◌∙◌, arith, eqb-true, mul-le-mul_right}
+use Rattle.std.proofs.Math.Nat.{mod-eq_of_lt, div-eq_of_lt, add-div_right, add-mod_right}
+use Rattle.std.proofs.lemmas.Bool.{and_parts, cond_both}
+use Rattle.std.proofs.lemmas.Nat.{div-mul-add, mod-mul-add}
+use Rattle.ring_core.specs.Ring.{IsElem}
+use Rattle.ring_core.specs.Coeffs.{coeff, are_elems, first_values}
+use Rattle.ring_core.specs.Powers.{power_of}
+use Rattle.ring_core.proofs.Twist.{sum_same}
+use Rattle.finite_ring.proofs.FieldOf.{power_in}
+use Rattle.residue_field.specs.declared.TopElem.{TopElem}
+use Rattle.residue_field.specs.Residue.{residue_unit}
+use Rattle.residue_field.specs.TopElem.{top_places}
+use Rattle.residue_field.specs.Base.{Base, ops_of, size_of}
+use Rattle.residue_field.specs.Top.{Top, top_ops, ops_of_top, frob_of_top}
+use Rattle.residue_field.proofs.BaseLaws.{base_ring}
+use Rattle.residue_field.proofs.TopLaws.{IsTopShape, top_shape_ring, top_stored, top_shape_of, top_degree}
+use Rattle.residue_field.proofs.TopFrob.{top_frob_field, frob_places}
+use Rattle.residue_field.proofs.Period.{frob_mod}
+use Rattle.field_tower.specs.Places.{IsStored, stored}
+use Rattle.field_tower.specs.Images.{image_of, image_at, combined}
+use Rattle.field_tower.proofs.Stored.{stored_from}
+use Rattle.field_tower.proofs.PowerSteps.{power_none, power_size}
+use Rattle.field_tower.proofs.TopValues.{top_elems}
+
+pub read-images : (count : ℕ) (f : ℕ → TopElem) (k : ℕ) → k < count → image_at (first_values count f) k ≡ f k
+read-images zero f k l = absurd (omega arith)
+read-images (suc n) f zero l = refl
+read-images (suc n) f (suc k) l = read-images n (λ j. f (suc j)) k (omega arith)
+
+pub image-read : (images : List TopElem) (count : ℕ) (f : ℕ → TopElem) → images ≡ first_values count f → (k : ℕ) → k < count → image_at images k ≡ f k
+image-read images count f e k l = ap (λ t. image_at t k) e ∙ read-images count f k l
+
+pub images_count : (images : List TopElem) (count : ℕ) (f : ℕ → TopElem) → images ≡ first_values count f → length images ≡ count
+images_count images count f e = ap length e ∙ count_of count f
+  where
+    count_of : (n : ℕ) (f : ℕ → TopElem) → length (first_values n f) ≡ n
+    count_of zero f = refl
+    count_of (suc n) f = ap suc (count_of n (λ i. f (suc i)))
+
+module _ (base : Base) (n : ℕ) (modulus : List ℕ) (positive : 0 < n) (shape : IsTopShape base (n - 1) modulus) where
+  unit_in : (j : ℕ) → j < n → IsElem (top_ops base (n - 1) modulus) (residue_unit (ops_of base) (top_places (ops_of base) (n - 1)) j)
+  unfolding top_ops
+  unit_in j l =
+      let r = ops_of base in
+      let closed = (base_ring base).closed in
+      (top_stored base (n - 1) modulus shape).pack_in _
+      (λ i. cond_both (nat_eq j i) r.one r.zero (IsElem r) (λ _. closed.one_in) (λ _. closed.zero_in))
+
+  pub image_in : (k : ℕ) → IsElem (top_ops base (n - 1) modulus) (image_of base n modulus k)
+  unfolding image_of
+  image_in k =
+      power_in (top_ops base (n - 1) modulus) (top_shape_ring base (n - 1) modulus shape) _ (size_of base ^ (k / n))
+      (unit_in (k % n) (omega arith))
+
+  pub image_first : (k : ℕ) → k < n → residue_unit (ops_of base) (top_places (ops_of base) (n - 1)) k ≡ image_of base n modulus k
+  unfolding image_of
+  image_first k l =
+      let ops = top_ops base (n - 1) modulus in
+      let unit = residue_unit (ops_of base) (top_places (ops_of base) (n - 1)) in
+      sym (power_none ops (top_shape_ring base (n - 1) modulus shape) (unit k) (unit_in k l) (size_of base))
+      ∙ ap₂ (λ j i. power_of ops (unit j) (size_of base ^ i)) (sym (mod-eq_of_lt l)) (sym (div-eq_of_lt l))
+
+  pub image_next : (k m : ℕ) → m ≡ k + n → power_of (top_ops base (n - 1) modulus) (image_of base n modulus k) (size_of base) ≡ image_of base n modulus m
+  unfolding image_of
+  image_next k m e =
+      let ops = top_ops base (n - 1) modulus in
+      let unit = residue_unit (ops_of base) (top_places (ops_of base) (n - 1)) in
+      let place : m % n ≡ k % n = ap (λ x. x % n) e ∙ add-mod_right k n in
+      let step : m / n ≡ k / n + 1 = ap (λ x. x / n) e ∙ add-div_right k positive in
+      power_size ops (top_shape_ring base (n - 1) modulus shape) (unit (k % n)) (unit_in (k % n) (omega arith)) (size_of base) (k / n)
+      ∙ ap₂ (λ j i. power_of ops (unit j) (size_of base ^ i)) (sym place) (sym step)
+
+stored_elem : (t : Top) (a : TopElem) → IsElem (ops_of_top t) a → IsStored (ops_of t.base) (t.n - 1) a
+unfolding top_ops
+stored_elem t a e = e
+
+-- the image of a power of the letter
+pub image_row : (t : Top) (i j : ℕ) → i < t.n → j < t.n
+    → image_of t.base t.n t.modulus (i * t.n + j) ≡ (frob_of_top t).frob (residue_unit (ops_of t.base) (top_places (ops_of t.base) (t.n - 1)) j) i
+unfolding image_of
+image_row t i j l m =
+    let unit = residue_unit (ops_of t.base) (top_places (ops_of t.base) (t.n - 1)) in
+    ap₂ (λ a b. power_of (ops_of_top t) (unit a) (size_of t.base ^ b)) (mod-mul-add i t.n j m) (div-mul-add i t.n j m)
+
+module _ (t : Top) (images : List TopElem) (are : images ≡ first_values (t.n * t.n) (image_of t.base t.n t.modulus)) where
+  positive_degree : 0 < t.n
+  positive_degree = t.is_top.0
+
+  -- the images are elements
+  pub images_elems : (k : ℕ) → k < length images → are_elems (ops_of t.base) (image_at images k).0 ≡ true
+  images_elems k l =
+      let count : length images ≡ t.n * t.n = images_count images (t.n * t.n) (image_of t.base t.n t.modulus) are in
+      let low : k < t.n * t.n = omega arith in
+      ap (λ x. are_elems (ops_of t.base) x.0) (image-read images (t.n * t.n) (image_of t.base t.n t.modulus) are k low)
+      ∙ top_elems t _ (image_in t.base t.n t.modulus positive_degree (top_shape_of t) k)
+
+  -- a row of images stands in the list
+  pub row_inside : (i : ℕ) → i < t.n → i * t.n + t.n ≤ length images
+  row_inside i l =
+      let count : length images ≡ t.n * t.n = images_count images (t.n * t.n) (image_of t.base t.n t.modulus) are in
+      let rows : suc i * t.n ≤ t.n * t.n = mul-le-mul_right t.n l in
+      omega arith
+
+  combined_is : (c : TopElem) (i l : ℕ) → IsElem (ops_of_top t) c → i < t.n → l < t.n
+      → coeff (ops_of t.base) ((frob_of_top t).frob c i).0 l ≡ combined (ops_of t.base) t.n images (i * t.n) c l
+  unfolding combined
+  combined_is c i l c_in low place =
+      let r = ops_of t.base in
+      let rows : suc i * t.n ≤ t.n * t.n = mul-le-mul_right t.n low in
+      frob_places t c i l c_in place
+      ∙ sum_same r (base_ring t.base) t.n _ _ (λ j (m : j < t.n).
+      ap (λ x. r.mul (coeff r c.0 j) (coeff r x.0 l))
+      (sym (image-read images (t.n * t.n) (image_of t.base t.n t.modulus) are (i * t.n + j) (omega arith) ∙ image_row t i j low m)))
+
+  frob_below : (c : TopElem) (i : ℕ) → IsElem (ops_of_top t) c → i < t.n
+      → (frob_of_top t).frob c i ≡ stored (ops_of t.base) (t.n - 1) (combined (ops_of t.base) t.n images (i * t.n) c)
+  frob_below c i c_in low =
+      let x = (frob_of_top t).frob c i in
+      let x_in = (top_frob_field t).frob_in c i c_in in
+      let shape = top_shape_of t in
+      let e : IsStored (ops_of t.base) (t.n - 1) x = stored_elem t x x_in in
+      stored_from (ops_of t.base) (t.n - 1) x.0 (combined (ops_of t.base) t.n images (i * t.n) c) (eqb-true _ _ (and_parts _ _ e).0)
+      (λ l (m : l < suc (t.n - 1)). combined_is c i l c_in low (subst (λ d. l < d) (top_degree t) m))
+      (λ l m. (top_stored t.base (t.n - 1) t.modulus shape).place_past x l e m)
+
+  frob_map : (c : TopElem) (i : ℕ) → IsElem (ops_of_top t) c
+      → stored (ops_of t.base) (t.n - 1) (combined (ops_of t.base) t.n images (i % t.n * t.n) c) ≡ (frob_of_top t).frob c i
+  frob_map c i c_in =
+      let positive = positive_degree in
+      let low : i % t.n < t.n = omega arith in
+      sym (frob_below c (i % t.n) c_in low)
+      ∙ frob_mod (ops_of_top t) (ops_of t.base) (frob_of_top t) (top_frob_field t) c i c_in
+
+  -- from the fields of a value to the value
+  pub frob_inside : (s : Top) → t ≡ s → (c : TopElem) (i : ℕ) → IsElem (ops_of_top s) c
+      → stored (ops_of t.base) (t.n - 1) (combined (ops_of t.base) t.n images (i % t.n * t.n) c) ≡ power_of (ops_of_top s) c (size_of s.base ^ i)
+  frob_inside s e c i c_in =
+      frob_map c i (subst (λ u. IsElem (ops_of_top u) c) (sym e) c_in) ∙ ap (λ u. power_of (ops_of_top u) c (size_of u.base ^ i)) e

@@ -1,0 +1,65 @@
+use Rattle.std.proofs.Common.{rules, ◌≡◌, ◌-◌, ◌<◌, ◌≤◌, length, sym, ap, subst, ◌∙◌, arith}
+use Rattle.ring_core.specs.Ring.{IsElem}
+use Rattle.ring_core.specs.Powers.{power_of}
+use Rattle.residue_field.specs.Top.{top_ops}
+use Rattle.field_tower.specs.Images.{image_of, image_at}
+use Rattle.field_tower.proofs.TopValues.{shape_from, stored-top}
+use Rattle.field_tower.proofs.FrobMap.{image-read, images_count, image_in, image_first, image_next}
+use Rattle.field_tower.proofs.frobenius.next_image.Goals as goal
+
+pub returns-then-m-n : goal.returns-then-m-n
+returns-then-m-n c =
+    let base = c.args.base.now in
+    let n = c.args.n in
+    let modulus = c.args.modulus.now in
+    let low : c.args.m < n = c.if-m-n.true in
+    let positive : 0 < n = omega arith in
+    let shape = shape_from base n modulus c.requires.degree c.requires.monic in
+    c.unit.ensures (n - 1) (omega arith) ∙ image_first base n modulus positive shape c.args.m low
+
+pub offset_bounds-images-m : goal.offset_bounds-images-m
+offset_bounds-images-m c =
+    let degree = c.requires.monic.degree in
+    let len = c.requires.degree in
+    let count : length c.args.images.now ≡ c.args.m = images_count c.args.images.now c.args.m (image_of c.args.base.now c.args.n c.args.modulus.now) c.requires.before in
+    search rules
+
+pub bounds-images-m : goal.bounds-images-m
+bounds-images-m c =
+    let degree = c.requires.monic.degree in
+    let len = c.requires.degree in
+    let count : length c.args.images.now ≡ c.args.m = images_count c.args.images.now c.args.m (image_of c.args.base.now c.args.n c.args.modulus.now) c.requires.before in
+    omega arith
+
+pub power-requires-clause-elem : goal.power-requires-clause-elem
+power-requires-clause-elem c =
+    let base = c.args.base.now in
+    let n = c.args.n in
+    let m = c.args.m in
+    let modulus = c.args.modulus.now in
+    let degree = c.requires.monic.degree in
+    let len = c.requires.degree in
+    let high : n ≤ m = c.if-m-n.false in
+    let positive : 0 < n = omega arith in
+    let shape = shape_from base n modulus c.requires.degree c.requires.monic in
+    let read = image-read c.args.images.now m (image_of base n modulus) c.requires.before (m - n) (omega arith) in
+    subst (λ r. IsElem r (image_at c.args.images.now (m - n))) (sym (stored-top base n modulus len))
+    (subst (IsElem (top_ops base (n - 1) modulus)) (sym read) (image_in base n modulus positive shape (m - n)))
+
+pub returns : goal.returns
+returns c =
+    let base = c.args.base.now in
+    let n = c.args.n in
+    let m = c.args.m in
+    let modulus = c.args.modulus.now in
+    let degree = c.requires.monic.degree in
+    let len = c.requires.degree in
+    let high : n ≤ m = c.if-m-n.false in
+    let positive : 0 < n = omega arith in
+    let shape = shape_from base n modulus c.requires.degree c.requires.monic in
+    let read = image-read c.args.images.now m (image_of base n modulus) c.requires.before (m - n) (omega arith) in
+    c.power.ensures.value
+    ∙ ap (λ r. power_of r (image_at c.args.images.now (m - n)) c.q.result) (stored-top base n modulus len)
+    ∙ ap (λ x. power_of (top_ops base (n - 1) modulus) x c.q.result) read
+    ∙ ap (power_of (top_ops base (n - 1) modulus) (image_of base n modulus (m - n))) c.q.ensures.value
+    ∙ image_next base n modulus positive shape (m - n) m (omega arith)

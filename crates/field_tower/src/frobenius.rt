@@ -1,0 +1,109 @@
+ghost use Rattle.std.specs.Prelude.{◌≡◌, ℕ, ◌-◌, ◌+◌, ◌*◌, ◌<◌, ◌≤◌, IfOk, length, true};
+ghost use Rattle.ring_core.specs.Ring.{IsElem};
+ghost use Rattle.ring_core.specs.Coeffs.{are_elems, first_values};
+ghost use Rattle.residue_field.specs.declared.TheConstants.{WIDTH};
+ghost use Rattle.residue_field.specs.Residue.{residue_unit};
+ghost use Rattle.residue_field.specs.TopElem.{top_places};
+ghost use Rattle.residue_field.specs.Base.{ops_of};
+ghost use Rattle.field_tower.specs.Places.{IsModulus, stored};
+ghost use Rattle.field_tower.specs.Images.{image_of, image_at, combined};
+
+use super::base::BaseField;
+use super::places;
+use residue_field::{Code, TopElem};
+use ring_core::lists::coeff_at;
+use ring_core::{Field, NoMemory};
+use std::alloc::Global;
+
+/// The residue of the power `j` of the letter, modulo a polynomial of a degree above `j`.
+fn unit(base: &BaseField, j: usize) -> TopElem
+    requires { j < WIDTH }
+    ensures { (d : ℕ) → j ≤ d → result ≡ residue_unit (ops_of base.now) (top_places (ops_of base.now) d) j }
+{
+    let mut places = places::zeros(base);
+    places[j] = base.one();
+    TopElem(places)
+}
+
+/// The image that comes after the first `m` images: a power of the letter, or the power by `q` of the
+/// image `n` places before.
+fn next_image(base: &BaseField, n: usize, modulus: &[Code], images: &[TopElem], m: usize) -> TopElem
+    requires monic { IsModulus (ops_of base.now) modulus.now }
+    requires degree { length modulus.now ≡ n + 1 }
+    requires before { images.now ≡ first_values m (image_of base.now n modulus.now) }
+    ensures { result ≡ image_of base.now n modulus.now m }
+{
+    if m < n {
+        return unit(base, m);
+    }
+    let image = images[m - n];
+    places::power(base, modulus, image, base.q())
+}
+
+/// The images of the powers of the letter below `n` under the powers of the Frobenius below `n`, where
+/// the modulus has degree `n`: that of `z^j` under the power `i` at `i * n + j`.
+pub(crate) fn images(
+    alloc: Global,
+    base: &BaseField,
+    n: usize,
+    modulus: &[Code],
+) -> Result<Vec<TopElem>, NoMemory>
+    requires monic { IsModulus (ops_of base.now) modulus.now }
+    requires degree { length modulus.now ≡ n + 1 }
+    ensures { IfOk result (λ v. v.items ≡ first_values (n * n) (image_of base.now n modulus.now)) }
+{
+    let mut images = Vec::new(alloc);
+    for m in 0..n * n {
+        let image = next_image(base, n, modulus, &images, m);
+        images.push(image)?;
+    }
+    Ok(images)
+}
+
+/// Coefficient `l` of the sum of the `n` images from the place `start` on, each multiplied with the
+/// coefficient of `c` at its place: `n` products.
+fn combined_at(
+    base: &BaseField,
+    n: usize,
+    images: &[TopElem],
+    start: usize,
+    c: TopElem,
+    l: usize,
+) -> Code
+    requires coeffs { are_elems (ops_of base.now) c.0 ≡ true }
+    requires images { (k : ℕ) → k < length images.now → are_elems (ops_of base.now) (image_at images.now k).0 ≡ true }
+    requires row { start + n ≤ length images.now }
+    ensures value { result ≡ combined (ops_of base.now) n images.now start c l }
+    ensures elem { IsElem (ops_of base.now) result }
+{
+    let mut sum = base.zero();
+    for j in 0..n {
+        let image = images[start + j];
+        let term = base.mul(coeff_at(base, &c.0, j), coeff_at(base, &image.0, l));
+        sum = base.add(sum, term);
+    }
+    sum
+}
+
+/// The sum of the `n` images from the place `start` on, each multiplied with the coefficient of `c` at
+/// its place: `n^2` products.
+pub(crate) fn combination(
+    base: &BaseField,
+    n: usize,
+    images: &[TopElem],
+    start: usize,
+    c: TopElem,
+) -> TopElem
+    requires positive { 0 < n }
+    requires room { n ≤ WIDTH }
+    requires coeffs { are_elems (ops_of base.now) c.0 ≡ true }
+    requires images { (k : ℕ) → k < length images.now → are_elems (ops_of base.now) (image_at images.now k).0 ≡ true }
+    requires row { start + n ≤ length images.now }
+    ensures { result ≡ stored (ops_of base.now) (n - 1) (combined (ops_of base.now) n images.now start c) }
+{
+    let mut places = places::zeros(base);
+    for l in 0..n {
+        places[l] = combined_at(base, n, images, start, c, l);
+    }
+    TopElem(places)
+}
