@@ -6,8 +6,10 @@ use std::test::Fail;
 /// Scripts and their whole output. Among them: each listed prime once; numbers above `p`; sums whose
 /// terms cancel modulo `p`; `z^128`, which is `z^2` in `F_4`, since `z^3` is 1; the letter after
 /// `over 1 z+2`, which is 1 modulo 3; `phi_T` itself and powers of `tau^n`, which are homomorphisms;
-/// rank 8; fields with 256 elements.
-const ANSWERED: &str = "base 2;over 2 z^2+z+1;check [z, 1] [z, z] [z+1] => q = 2;n = 2;yes
+/// rank 8; degrees up to 12.
+const ANSWERED: &str = "base 3;over 6 z^6+z+2;check [1, 1] [1, 1] [1] => q = 3;n = 6;yes
+base 2;over 12 z^12+z^3+1;check [z, 1] [z, 1] [z, 1] => q = 2;n = 12;yes
+base 2;over 2 z^2+z+1;check [z, 1] [z, z] [z+1] => q = 2;n = 2;yes
 base 2;over 2 z^2+z+1;check [z, 1] [z, z] [1] => q = 2;n = 2;no
 base 3;over 1 z;check [1, 1] [1, 2] [1] => q = 3;n = 1;no
 base 2;over 1 z;check [1, 1] [1, 1] [1] => q = 2;n = 1;yes
@@ -35,7 +37,9 @@ base 2;over 8 z^8+z^4+z^3+z+1;check [z, 1] [z, 1] [0, 1] => q = 2;n = 8;no";
 /// 2 over `F_2` and `F_3`; a reducible modulus without a root; sums that aren't monic of the degree;
 /// numbers that are no listed prime; lists that are no modules; constants that differ; breaches of the
 /// grammar and of its limits.
-const NOT_BUILT: &str = "base 2
+const NOT_BUILT: &str = "base 2;over 12 z^12;check [z, 1] [z, 1] [1]
+base 2;over 13 z^13+z^4+z^3+z+1;check [z, 1] [z, 1] [1]
+base 2
 base 2;over 2 z^2+z+1
 base 2;over 2 z^2+z+1;check [z, 1] [z, z] [z+1];check [z, 1] [z, z] [z+1]
 over 2 z^2+z+1;base 2;check [z, 1] [z, z] [z+1]

@@ -1,5 +1,5 @@
 -- What the numbers and sums of a first script mean: its field, and the values of its sums there.
-use Rattle.std.specs.Prelude.{◌≡◌, ℕ, ◌+◌, ◌%◌, ◌^◌, ◌<◌, ◌≤◌, List, [], ◌∷◌, map, fold}
+use Rattle.std.specs.Prelude.{◌≡◌, ℕ, ◌+◌, ◌%◌, ◌<◌, List, [], ◌∷◌, map, fold}
 use Rattle.ring_core.specs.Powers.{power_of}
 use Rattle.ring_core.specs.Coeffs.{first_values}
 use Rattle.residue_field.specs.declared.TopElem.{TopElem}
@@ -8,10 +8,6 @@ use Rattle.residue_field.specs.Top.{Top, ops_of_top, frob_of_top, letter_of}
 use Rattle.first_path.specs.declared.Term.{Term}
 use Rattle.first_path.specs.declared.FirstScript.{FirstScript}
 use Rattle.first_path.specs.Meaning.{coefficient}
-
--- The most elements that the field of a first script may have.
-abbrev pub first_size : ℕ
-first_size = 256
 
 -- The numbers modulo `p`, as the residues modulo the letter of the base.
 pub record IsPrimeField (p : ℕ) (k : Base) : Type 0 where
@@ -26,7 +22,6 @@ pub record IsFieldOf (s : FirstScript) (t : Top) : Type 0 where
   pub degree : t.n ≡ s.n
   pub modulus : t.modulus ≡ first_values (s.n + 1) (λ k. coefficient s.modulus k % s.p)
   pub no_higher : (k : ℕ) → s.n < k → coefficient s.modulus k % s.p ≡ 0
-  pub small : s.p ^ s.n ≤ first_size
 
 -- The value of a term: its number, taken modulo `p`, times the power of `z`.
 abbrev pub term_value : Top → Term → TopElem

@@ -3,8 +3,8 @@ ghost use Rattle.residue_field.specs.Base.{Base};
 ghost use Rattle.residue_field.specs.Top.{Top};
 ghost use Rattle.first_answer.specs.Meaning.{IsFieldOf, IsPrimeField};
 
-use super::polynomial::{coefficients, has_no_higher, is_first_size};
-use field_tower::{BaseFault, BaseField, Tower, TowerFault};
+use super::polynomial::{coefficients, has_no_higher};
+use field_tower::{BaseFault, BaseField, Tower, TowerFault, WIDTH};
 use first_path::FirstScript;
 use ring_core::NoMemory;
 use std::alloc::Global;
@@ -32,7 +32,7 @@ pub fn field_of(alloc: Global, script: &FirstScript) -> Result<Option<Tower>, No
         return Ok(None);
     };
     let sum = script.modulus.as_slice();
-    if !is_first_size(script.p, script.n) || !has_no_higher(sum, script.p, script.n) {
+    if script.n as usize > WIDTH || !has_no_higher(sum, script.p, script.n) {
         return Ok(None);
     }
     let modulus = coefficients(alloc, sum, script.p, script.n)?;

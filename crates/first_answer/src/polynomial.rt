@@ -1,18 +1,14 @@
 //! Sums of terms as polynomials in `z` modulo a prime.
 
-ghost use Rattle.std.specs.Prelude.{◌≡◌, ℕ, ◌+◌, ◌%◌, ◌^◌, ◌<◌, ◌≤◌, ◌↔◌, IsTrue, IfOk, true};
+ghost use Rattle.std.specs.Prelude.{◌≡◌, ℕ, ◌+◌, ◌%◌, ◌^◌, ◌<◌, ◌↔◌, IsTrue, IfOk, true};
 ghost use Rattle.ring_core.specs.Coeffs.{first_values};
 ghost use Rattle.residue_field.specs.Prime.{is_listed};
 ghost use Rattle.first_path.specs.Meaning.{coefficient, top_power};
-ghost use Rattle.first_answer.specs.Meaning.{first_size};
 
 use first_path::Term;
 use residue_field::Code;
 use ring_core::NoMemory;
 use std::alloc::Global;
-
-/// The most elements that the field of a script may have.
-const FIRST_SIZE: u32 = 256;
 
 /// The number modulo the prime `p`, as a code of the prime field.
 pub fn reduced(number: u32, p: u32) -> Code
@@ -71,20 +67,4 @@ pub fn coefficients(alloc: Global, sum: &[Term], p: u32, degree: u32) -> Result<
         list.push(coefficient_modulo(sum, p, exponent))?;
     }
     Ok(list)
-}
-
-/// Whether `p^n` is at most the size of the fields that are answered.
-pub fn is_first_size(p: u32, n: u32) -> bool
-    requires { is_listed p ≡ true }
-    ensures small { IsTrue result ↔ (p ^ n ≤ first_size) }
-    ensures few { IsTrue result → n < first_size }
-{
-    let mut size = 1;
-    for _ in 0..n {
-        size *= p;
-        if size > FIRST_SIZE {
-            return false;
-        }
-    }
-    true
 }

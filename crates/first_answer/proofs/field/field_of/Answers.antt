@@ -9,14 +9,16 @@ use Rattle.first_answer.proofs.field.field_of.Goals as goal
 pub returns-in_default-clause-none : goal.returns-in_default-clause-none
 returns-in_default-clause-none c = λ t field. (rw c.in_default.is at c.in_ok-base.ensures.none) t.base field.base
 
-pub make-requires-clause-members : goal.make-requires-clause-members
-make-requires-clause-members c =
+pub make-requires : goal.make-requires
+make-requires c =
     let script = c.args.script.now in
     let base = c.in-Some.base in
     let prime = rw c.in-Some.is at c.in_ok-base.ensures.some in
     let P : List ℕ → Type 0 = λ list. are_elems (ops_of base) list ≡ true in
-    subst P (sym (c.deref.ensures.value ∙ c.in_ok-modulus.ensures))
-    (codes_elems base script.p prime (script.n + 1) (λ k. coefficient c.as_slice-sum.result.now k))
+    record {
+      members = subst P (sym (c.deref.ensures.value ∙ c.in_ok-modulus.ensures))
+      (codes_elems base script.p prime (script.n + 1) (λ k. coefficient c.as_slice-sum.result.now k));
+    }
 
 pub returns-in-Ok-clause-some : goal.returns-in-Ok-clause-some
 returns-in-Ok-clause-some c =
@@ -30,7 +32,6 @@ returns-in-Ok-clause-some c =
       degree = c.in-Ok.ensures.1;
       modulus = c.in-Ok.ensures.2 ∙ c.deref.ensures.value ∙ (rw sum at c.in_ok-modulus.ensures);
       no_higher = no_higher;
-      small = c.is_first_size.ensures.small.0 c.if-not-is_first_size.false;
     }
 
 pub returns : goal.returns
