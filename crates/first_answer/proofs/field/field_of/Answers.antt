@@ -17,7 +17,7 @@ make-requires c =
     let P : List ℕ → Type 0 = λ list. are_elems (ops_of base) list ≡ true in
     record {
       members = subst P (sym (c.deref.ensures.value ∙ c.in_ok-modulus.ensures))
-      (codes_elems base script.p prime (script.n + 1) (λ k. coefficient c.as_slice-sum.result.now k));
+          (codes_elems base script.p prime (script.n + 1) (λ k. coefficient c.as_slice-sum.result.now k));
     }
 
 pub returns-in-Ok-clause-some : goal.returns-in-Ok-clause-some
