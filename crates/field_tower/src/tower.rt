@@ -10,7 +10,7 @@ ghost use Rattle.field_tower.specs.declared.size.TheConstants.{CODES};
 ghost use Rattle.residue_field.specs.declared.TheConstants.{WIDTH};
 ghost use Rattle.field_tower.specs.Places.{IsModulus, residue_at};
 ghost use Rattle.field_tower.specs.Pairs.{IsPair, PassesAt};
-ghost use Rattle.field_tower.specs.Images.{image_of};
+ghost use Rattle.field_tower.specs.Images.{frob_image};
 
 use super::base::BaseField;
 use super::codes::digits;
@@ -32,7 +32,7 @@ pub struct Tower {
     modulus: Vec<Code>,
     images: Vec<TopElem>,
     ghost is_top: { IsTop base n modulus.items },
-    ghost images_are: { images.items ≡ first_values (n * n) (image_of base n modulus.items) },
+    ghost images_are: { images.items ≡ first_values (n * n) (frob_image base n modulus.items) },
 }
 
 impl Model for Tower {
