@@ -18,7 +18,7 @@ use Rattle.residue_field.proofs.TopLaws.{IsTopShape, top_shape_ring, top_stored,
 use Rattle.residue_field.proofs.TopFrob.{top_frob_field, frob_places}
 use Rattle.residue_field.proofs.Period.{frob_mod}
 use Rattle.field_tower.specs.Places.{IsStored, stored}
-use Rattle.field_tower.specs.Images.{image_of, image_at, combined}
+use Rattle.field_tower.specs.Images.{frob_image, image_at, combined}
 use Rattle.field_tower.proofs.Stored.{stored_from}
 use Rattle.field_tower.proofs.PowerSteps.{power_none, power_size}
 use Rattle.field_tower.proofs.TopValues.{top_elems}
@@ -47,22 +47,22 @@ module _ (base : Base) (n : ℕ) (modulus : List ℕ) (positive : 0 < n) (shape 
       (top_stored base (n - 1) modulus shape).pack_in _
       (λ i. cond_both (nat_eq j i) r.one r.zero (IsElem r) (λ _. closed.one_in) (λ _. closed.zero_in))
 
-  pub image_in : (k : ℕ) → IsElem (top_ops base (n - 1) modulus) (image_of base n modulus k)
-  unfolding image_of
+  pub image_in : (k : ℕ) → IsElem (top_ops base (n - 1) modulus) (frob_image base n modulus k)
+  unfolding frob_image
   image_in k =
       power_in (top_ops base (n - 1) modulus) (top_shape_ring base (n - 1) modulus shape) _ (size_of base ^ (k / n))
       (unit_in (k % n) (omega arith))
 
-  pub image_first : (k : ℕ) → k < n → residue_unit (ops_of base) (top_places (ops_of base) (n - 1)) k ≡ image_of base n modulus k
-  unfolding image_of
+  pub image_first : (k : ℕ) → k < n → residue_unit (ops_of base) (top_places (ops_of base) (n - 1)) k ≡ frob_image base n modulus k
+  unfolding frob_image
   image_first k l =
       let ops = top_ops base (n - 1) modulus in
       let unit = residue_unit (ops_of base) (top_places (ops_of base) (n - 1)) in
       sym (power_none ops (top_shape_ring base (n - 1) modulus shape) (unit k) (unit_in k l) (size_of base))
       ∙ ap₂ (λ j i. power_of ops (unit j) (size_of base ^ i)) (sym (mod-eq_of_lt l)) (sym (div-eq_of_lt l))
 
-  pub image_next : (k m : ℕ) → m ≡ k + n → power_of (top_ops base (n - 1) modulus) (image_of base n modulus k) (size_of base) ≡ image_of base n modulus m
-  unfolding image_of
+  pub image_next : (k m : ℕ) → m ≡ k + n → power_of (top_ops base (n - 1) modulus) (frob_image base n modulus k) (size_of base) ≡ frob_image base n modulus m
+  unfolding frob_image
   image_next k m e =
       let ops = top_ops base (n - 1) modulus in
       let unit = residue_unit (ops_of base) (top_places (ops_of base) (n - 1)) in
@@ -77,28 +77,28 @@ stored_elem t a e = e
 
 -- the image of a power of the letter
 pub image_row : (t : Top) (i j : ℕ) → i < t.n → j < t.n
-    → image_of t.base t.n t.modulus (i * t.n + j) ≡ (frob_of_top t).frob (residue_unit (ops_of t.base) (top_places (ops_of t.base) (t.n - 1)) j) i
-unfolding image_of
+    → frob_image t.base t.n t.modulus (i * t.n + j) ≡ (frob_of_top t).frob (residue_unit (ops_of t.base) (top_places (ops_of t.base) (t.n - 1)) j) i
+unfolding frob_image
 image_row t i j l m =
     let unit = residue_unit (ops_of t.base) (top_places (ops_of t.base) (t.n - 1)) in
     ap₂ (λ a b. power_of (ops_of_top t) (unit a) (size_of t.base ^ b)) (mod-mul-add i t.n j m) (div-mul-add i t.n j m)
 
-module _ (t : Top) (images : List TopElem) (are : images ≡ first_values (t.n * t.n) (image_of t.base t.n t.modulus)) where
+module _ (t : Top) (images : List TopElem) (are : images ≡ first_values (t.n * t.n) (frob_image t.base t.n t.modulus)) where
   positive_degree : 0 < t.n
   positive_degree = t.is_top.0
 
   -- the images are elements
   pub images_elems : (k : ℕ) → k < length images → are_elems (ops_of t.base) (image_at images k).0 ≡ true
   images_elems k l =
-      let count : length images ≡ t.n * t.n = images_count images (t.n * t.n) (image_of t.base t.n t.modulus) are in
+      let count : length images ≡ t.n * t.n = images_count images (t.n * t.n) (frob_image t.base t.n t.modulus) are in
       let low : k < t.n * t.n = omega arith in
-      ap (λ x. are_elems (ops_of t.base) x.0) (image-read images (t.n * t.n) (image_of t.base t.n t.modulus) are k low)
+      ap (λ x. are_elems (ops_of t.base) x.0) (image-read images (t.n * t.n) (frob_image t.base t.n t.modulus) are k low)
       ∙ top_elems t _ (image_in t.base t.n t.modulus positive_degree (top_shape_of t) k)
 
   -- a row of images stands in the list
   pub row_inside : (i : ℕ) → i < t.n → i * t.n + t.n ≤ length images
   row_inside i l =
-      let count : length images ≡ t.n * t.n = images_count images (t.n * t.n) (image_of t.base t.n t.modulus) are in
+      let count : length images ≡ t.n * t.n = images_count images (t.n * t.n) (frob_image t.base t.n t.modulus) are in
       let rows : suc i * t.n ≤ t.n * t.n = mul-le-mul_right t.n l in
       omega arith
 
@@ -111,7 +111,7 @@ module _ (t : Top) (images : List TopElem) (are : images ≡ first_values (t.n *
       frob_places t c i l c_in place
       ∙ sum_same r (base_ring t.base) t.n _ _ (λ j (m : j < t.n).
       ap (λ x. r.mul (coeff r c.0 j) (coeff r x.0 l))
-      (sym (image-read images (t.n * t.n) (image_of t.base t.n t.modulus) are (i * t.n + j) (omega arith) ∙ image_row t i j low m)))
+      (sym (image-read images (t.n * t.n) (frob_image t.base t.n t.modulus) are (i * t.n + j) (omega arith) ∙ image_row t i j low m)))
 
   frob_below : (c : TopElem) (i : ℕ) → IsElem (ops_of_top t) c → i < t.n
       → (frob_of_top t).frob c i ≡ stored (ops_of t.base) (t.n - 1) (combined (ops_of t.base) t.n images (i * t.n) c)

@@ -10,8 +10,8 @@ use Rattle.residue_field.specs.Base.{Base, ops_of, size_of}
 use Rattle.residue_field.specs.Top.{top_ops}
 
 -- The power by `q^(k / n)` of the residue of `z^(k % n)`, where `base` has `q` elements.
-unfoldable pub image_of : Base → ℕ → List ℕ → ℕ → TopElem
-image_of base n modulus k =
+unfoldable pub frob_image : Base → ℕ → List ℕ → ℕ → TopElem
+frob_image base n modulus k =
     power_of (top_ops base (n - 1) modulus) (residue_unit (ops_of base) (top_places (ops_of base) (n - 1)) (k % n)) (size_of base ^ (k / n))
 
 -- The member at `k`.

@@ -6,7 +6,7 @@ ghost use Rattle.residue_field.specs.Residue.{residue_unit};
 ghost use Rattle.residue_field.specs.TopElem.{top_places};
 ghost use Rattle.residue_field.specs.Base.{ops_of};
 ghost use Rattle.field_tower.specs.Places.{IsModulus, stored};
-ghost use Rattle.field_tower.specs.Images.{image_of, image_at, combined};
+ghost use Rattle.field_tower.specs.Images.{frob_image, image_at, combined};
 
 use super::base::BaseField;
 use super::places;
@@ -30,8 +30,8 @@ fn unit(base: &BaseField, j: usize) -> TopElem
 fn next_image(base: &BaseField, n: usize, modulus: &[Code], images: &[TopElem], m: usize) -> TopElem
     requires monic { IsModulus (ops_of base.now) modulus.now }
     requires degree { length modulus.now ≡ n + 1 }
-    requires before { images.now ≡ first_values m (image_of base.now n modulus.now) }
-    ensures { result ≡ image_of base.now n modulus.now m }
+    requires before { images.now ≡ first_values m (frob_image base.now n modulus.now) }
+    ensures { result ≡ frob_image base.now n modulus.now m }
 {
     if m < n {
         return unit(base, m);
@@ -50,7 +50,7 @@ pub(crate) fn images(
 ) -> Result<Vec<TopElem>, NoMemory>
     requires monic { IsModulus (ops_of base.now) modulus.now }
     requires degree { length modulus.now ≡ n + 1 }
-    ensures { IfOk result (λ v. v.items ≡ first_values (n * n) (image_of base.now n modulus.now)) }
+    ensures { IfOk result (λ v. v.items ≡ first_values (n * n) (frob_image base.now n modulus.now)) }
 {
     let mut images = Vec::new(alloc);
     for m in 0..n * n {

@@ -1,7 +1,7 @@
 use Rattle.std.proofs.Common.{◌≡◌}
 use Rattle.ring_core.specs.Coeffs.{first_values}
-use Rattle.field_tower.specs.Images.{image_of}
+use Rattle.field_tower.specs.Images.{frob_image}
 use Rattle.field_tower.proofs.frobenius.images.Given as goal
 
 abbrev pub invariant-loop-m : goal.invariant-loop-m
-invariant-loop-m l = l.images.items ≡ first_values l.m (image_of l.base l.n l.modulus)
+invariant-loop-m l = l.images.items ≡ first_values l.m (frob_image l.base l.n l.modulus)

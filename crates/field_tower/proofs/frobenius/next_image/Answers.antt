@@ -2,7 +2,7 @@ use Rattle.std.proofs.Common.{rules, ◌≡◌, ◌-◌, ◌<◌, ◌≤◌, len
 use Rattle.ring_core.specs.Ring.{IsElem}
 use Rattle.ring_core.specs.Powers.{power_of}
 use Rattle.residue_field.specs.Top.{top_ops}
-use Rattle.field_tower.specs.Images.{image_of, image_at}
+use Rattle.field_tower.specs.Images.{frob_image, image_at}
 use Rattle.field_tower.proofs.TopValues.{shape_from, stored-top}
 use Rattle.field_tower.proofs.FrobMap.{image-read, images_count, image_in, image_first, image_next}
 use Rattle.field_tower.proofs.frobenius.next_image.Goals as goal
@@ -21,14 +21,14 @@ pub offset_bounds-images-m : goal.offset_bounds-images-m
 offset_bounds-images-m c =
     let degree = c.requires.monic.degree in
     let len = c.requires.degree in
-    let count : length c.args.images.now ≡ c.args.m = images_count c.args.images.now c.args.m (image_of c.args.base.now c.args.n c.args.modulus.now) c.requires.before in
+    let count : length c.args.images.now ≡ c.args.m = images_count c.args.images.now c.args.m (frob_image c.args.base.now c.args.n c.args.modulus.now) c.requires.before in
     search rules
 
 pub bounds-images-m : goal.bounds-images-m
 bounds-images-m c =
     let degree = c.requires.monic.degree in
     let len = c.requires.degree in
-    let count : length c.args.images.now ≡ c.args.m = images_count c.args.images.now c.args.m (image_of c.args.base.now c.args.n c.args.modulus.now) c.requires.before in
+    let count : length c.args.images.now ≡ c.args.m = images_count c.args.images.now c.args.m (frob_image c.args.base.now c.args.n c.args.modulus.now) c.requires.before in
     omega arith
 
 pub power-requires-clause-elem : goal.power-requires-clause-elem
@@ -42,7 +42,7 @@ power-requires-clause-elem c =
     let high : n ≤ m = c.if-m-n.false in
     let positive : 0 < n = omega arith in
     let shape = shape_from base n modulus c.requires.degree c.requires.monic in
-    let read = image-read c.args.images.now m (image_of base n modulus) c.requires.before (m - n) (omega arith) in
+    let read = image-read c.args.images.now m (frob_image base n modulus) c.requires.before (m - n) (omega arith) in
     subst (λ r. IsElem r (image_at c.args.images.now (m - n))) (sym (stored-top base n modulus len))
     (subst (IsElem (top_ops base (n - 1) modulus)) (sym read) (image_in base n modulus positive shape (m - n)))
 
@@ -57,9 +57,9 @@ returns c =
     let high : n ≤ m = c.if-m-n.false in
     let positive : 0 < n = omega arith in
     let shape = shape_from base n modulus c.requires.degree c.requires.monic in
-    let read = image-read c.args.images.now m (image_of base n modulus) c.requires.before (m - n) (omega arith) in
+    let read = image-read c.args.images.now m (frob_image base n modulus) c.requires.before (m - n) (omega arith) in
     c.power.ensures.value
     ∙ ap (λ r. power_of r (image_at c.args.images.now (m - n)) c.q.result) (stored-top base n modulus len)
     ∙ ap (λ x. power_of (top_ops base (n - 1) modulus) x c.q.result) read
-    ∙ ap (power_of (top_ops base (n - 1) modulus) (image_of base n modulus (m - n))) c.q.ensures.value
+    ∙ ap (power_of (top_ops base (n - 1) modulus) (frob_image base n modulus (m - n))) c.q.ensures.value
     ∙ image_next base n modulus positive shape (m - n) m (omega arith)

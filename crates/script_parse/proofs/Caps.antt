@@ -1,0 +1,192 @@
+-- A line's tokens with whole numbers, and those with numbers up to a cap: they are statements alike,
+-- and pass the same limit; where they pass none, they are the same.
+use Rattle.std.proofs.Common.{◌≡◌, ℕ, Bool, true, false, ◌||◌, nat_lt, Option, Some, None, List, [], ◌∷◌, refl, sym, ap, ◌∙◌, subst, arith}
+use Rattle.std.proofs.lemmas.Bool.Decides.{nat_tests}
+use Rattle.std.specs.List.{take_while, list_any}
+use Rattle.std.specs.Char.{is_ascii_digit}
+use Rattle.std.specs.Str.Parse.{digits_value}
+use Rattle.script_lang.specs.declared.Form.{Form}
+use Rattle.script_lang.specs.declared.SizeKind.{SizeKind}
+use Rattle.script_lang.specs.declared.SizeKind.TheVariants as size
+use Rattle.script_lang.specs.declared.Token.{Token}
+use Rattle.script_lang.specs.declared.Token.TheVariants as token
+use Rattle.script_lang.specs.Lines.{content, is_blank}
+use Rattle.script_lang.specs.Tokens.{is_word_byte, word_token, capped, BeginsWith, IsTokens}
+use Rattle.script_lang.proofs.Equal.{same_some, cons_same}
+use Rattle.script_lang.proofs.Lexing.{tokens_once}
+use Rattle.script_statement.specs.declared.Verb.{Verb}
+use Rattle.script_statement.specs.Verbs.{verb_of}
+use Rattle.script_statement.specs.Statements.{IsStatement}
+use Rattle.script_parse.specs.declared.limit.Seen.{Seen}
+use Rattle.script_parse.specs.declared.line.Line.{Line}
+use Rattle.script_parse.specs.declared.line.Line.TheVariants as line
+use Rattle.script_parse.specs.Exact.{IsExact, StandsFor}
+use Rattle.script_parse.specs.Limits.{limit_at, number_limit, after, seen_of, first_kind, is_empty, first_limit, operands_limit, tokens_limit, is_as, is_naming, gives_name, line_limit}
+use Rattle.script_parse.specs.Says.{LineSays}
+use Rattle.script_parse.proofs.Shapes.{SameShape, shape_next, shape_statement}
+
+pub data Caps : List Token → List Token → Type 0 where
+  no_caps : Caps [] []
+  cap_number : {n : ℕ} {ts us : List Token} → Caps ts us → Caps (token.Number n ∷ ts) (token.Number (capped n) ∷ us)
+  cap_same : {t : Token} {ts us : List Token} → Caps ts us → Caps (t ∷ ts) (t ∷ us)
+
+capped_zero : (n : ℕ) → capped n ≡ 0 → n ≡ 0
+capped_zero n e = omega arith
+
+zero_capped : (n : ℕ) → n ≡ 0 → capped n ≡ 0
+zero_capped n e = omega arith
+
+caps_shape : {ts us : List Token} → Caps ts us → SameShape ts us
+caps_shape Caps.no_caps = SameShape.no_tokens
+caps_shape (Caps.cap_number {n = n} x) = SameShape.two_numbers (capped_zero n) (caps_shape x)
+caps_shape (Caps.cap_same {t = t} x) = shape_next t (caps_shape x)
+
+caps_back : {ts us : List Token} → Caps ts us → SameShape us ts
+caps_back Caps.no_caps = SameShape.no_tokens
+caps_back (Caps.cap_number {n = n} x) = SameShape.two_numbers (zero_capped n) (caps_back x)
+caps_back (Caps.cap_same {t = t} x) = shape_next t (caps_back x)
+
+exact_tokens : {bs : List ℕ} {ts : List Token} → IsExact bs ts → (us : List Token) × IsTokens bs us × Caps ts us
+exact_tokens IsExact.no_bytes = ([], IsTokens.done, Caps.no_caps)
+exact_tokens (IsExact.blank_byte h x) = let e = exact_tokens x in (e.0, IsTokens.space h e.1, e.2)
+exact_tokens (IsExact.exact_sign {s = s} h x) = let e = exact_tokens x in (token.Sign s ∷ e.0, IsTokens.next (BeginsWith.a_sign h) e.1, Caps.cap_same e.2)
+exact_tokens (IsExact.exact_number {b = b} {bs = bs} h x) =
+    let e = exact_tokens x in
+    (token.Number (capped (digits_value 10 (take_while is_ascii_digit (b ∷ bs)))) ∷ e.0, IsTokens.next (BeginsWith.a_number {b = b} {bs = bs} h) e.1, Caps.cap_number e.2)
+exact_tokens (IsExact.exact_word {b = b} {bs = bs} h x) =
+    let e = exact_tokens x in
+    (word_token (take_while is_word_byte (b ∷ bs)) ∷ e.0, IsTokens.next (BeginsWith.a_word {b = b} {bs = bs} h) e.1, Caps.cap_same e.2)
+
+tokens_exact : {bs : List ℕ} {us : List Token} → IsTokens bs us → (ts : List Token) × IsExact bs ts × Caps ts us
+tokens_exact IsTokens.done = ([], IsExact.no_bytes, Caps.no_caps)
+tokens_exact (IsTokens.space h x) = let e = tokens_exact x in (e.0, IsExact.blank_byte h e.1, e.2)
+tokens_exact (IsTokens.next (BeginsWith.a_sign {s = s} h) x) = let e = tokens_exact x in (token.Sign s ∷ e.0, IsExact.exact_sign h e.1, Caps.cap_same e.2)
+tokens_exact (IsTokens.next (BeginsWith.a_number {b = b} {bs = bs} h) x) =
+    let e = tokens_exact x in
+    (token.Number (digits_value 10 (take_while is_ascii_digit (b ∷ bs))) ∷ e.0, IsExact.exact_number {b = b} {bs = bs} h e.1, Caps.cap_number e.2)
+tokens_exact (IsTokens.next (BeginsWith.a_word {b = b} {bs = bs} h) x) =
+    let e = tokens_exact x in
+    (word_token (take_while is_word_byte (b ∷ bs)) ∷ e.0, IsExact.exact_word {b = b} {bs = bs} h e.1, Caps.cap_same e.2)
+
+capped_within : (n : ℕ) → nat_lt 999999999 n ≡ false → capped n ≡ n
+capped_within n e = grind (arith, nat_tests)
+
+within_capped : (n : ℕ) → nat_lt 999999999 (capped n) ≡ false → capped n ≡ n
+within_capped n e = grind (arith, nat_tests)
+
+capped_over : (n : ℕ) → nat_lt 999999999 n ≡ true → nat_lt 999999999 (capped n) ≡ true
+capped_over n e = grind (arith, nat_tests)
+
+number_over : (seen : Seen) (last : Bool) (n : ℕ) → nat_lt 999999999 n ≡ true → number_limit seen last n ≡ Some size.Number
+number_over seen last n e = cc
+
+empties : {ts us : List Token} → Caps ts us → is_empty ts ≡ is_empty us
+empties Caps.no_caps = refl
+empties (Caps.cap_number x) = refl
+empties (Caps.cap_same x) = refl
+
+number_same : (seen : Seen) (n : ℕ) (ts us : List Token) → is_empty ts ≡ is_empty us → first_limit (after seen (token.Number n)) ts ≡ first_limit (after seen (token.Number n)) us
+    → (b : Bool) → nat_lt 999999999 n ≡ b → first_limit seen (token.Number n ∷ ts) ≡ first_limit seen (token.Number (capped n) ∷ us)
+number_same seen n ts us a h true e =
+    let f = number_over seen (is_empty ts) n e in
+    let g = number_over seen (is_empty us) (capped n) (capped_over n e) in
+    ap (λ k. first_kind k (first_limit (after seen (token.Number n)) ts)) f ∙ sym (ap (λ k. first_kind k (first_limit (after seen (token.Number (capped n))) us)) g)
+number_same seen n ts us a h false e =
+    let f : first_limit seen (token.Number n ∷ ts) ≡ first_limit seen (token.Number n ∷ us) = (λ i. first_kind (number_limit seen (a i) n) (h i)) in
+    subst (λ m. first_limit seen (token.Number n ∷ ts) ≡ first_limit seen (token.Number m ∷ us)) (sym (capped_within n e)) f
+
+limits_same : (seen : Seen) {ts us : List Token} → Caps ts us → first_limit seen ts ≡ first_limit seen us
+limits_same seen Caps.no_caps = refl
+limits_same seen (Caps.cap_same {t = t} x) = (λ i. first_kind (limit_at seen (empties x i) t) (limits_same (after seen t) x i))
+limits_same seen (Caps.cap_number {n = n} {ts = ts} {us = us} x) = number_same seen n ts us (empties x) (limits_same (after seen (token.Number n)) x) (nat_lt 999999999 n) refl
+
+first_none : (a b : Option SizeKind) → first_kind a b ≡ None → a ≡ None
+first_none None b e = refl
+first_none (Some k) b e = absurd cc
+
+second_none : (a b : Option SizeKind) → first_kind a b ≡ None → b ≡ None
+second_none None b e = e
+second_none (Some k) b e = absurd cc
+
+number_none : (seen : Seen) (last : Bool) (n : ℕ) (b : Bool) → nat_lt 999999999 n ≡ b → number_limit seen last n ≡ None → b ≡ false
+number_none seen last n false e f = refl
+number_none seen last n true e f = let g = number_over seen last n e in absurd cc
+
+caps_equal : (seen : Seen) {ts us : List Token} → Caps ts us → first_limit seen us ≡ None → ts ≡ us
+caps_equal seen Caps.no_caps e = refl
+caps_equal seen (Caps.cap_same {t = t} {us = us} x) e =
+    cons_same refl (caps_equal (after seen t) x (second_none (limit_at seen (is_empty us) t) (first_limit (after seen t) us) e))
+caps_equal seen (Caps.cap_number {n = n} {us = us} x) e =
+    let t = token.Number (capped n) in
+    let f = first_none (limit_at seen (is_empty us) t) (first_limit (after seen t) us) e in
+    let g = number_none seen (is_empty us) (capped n) (nat_lt 999999999 (capped n)) refl f in
+    cons_same (ap token.Number (sym (within_capped n g))) (caps_equal (after seen t) x (second_none (limit_at seen (is_empty us) t) (first_limit (after seen t) us) e))
+
+operands_same : (v : Option Verb) {ts us : List Token} → Caps ts us → operands_limit v ts ≡ operands_limit v us
+operands_same None x = refl
+operands_same (Some v) x = limits_same (seen_of v) x
+
+tokens_same : {ts us : List Token} → Caps ts us → tokens_limit ts ≡ tokens_limit us
+tokens_same Caps.no_caps = refl
+tokens_same (Caps.cap_number x) = refl
+tokens_same (Caps.cap_same {t = token.Word w} x) = operands_same (verb_of w) x
+tokens_same (Caps.cap_same {t = token.Number n} x) = refl
+tokens_same (Caps.cap_same {t = token.Letter l} x) = refl
+tokens_same (Caps.cap_same {t = token.As} x) = refl
+tokens_same (Caps.cap_same {t = token.Sign s} x) = refl
+
+as_same : {ts us : List Token} → Caps ts us → list_any is_as ts ≡ list_any is_as us
+as_same Caps.no_caps = refl
+as_same (Caps.cap_number x) = as_same x
+as_same (Caps.cap_same {t = t} x) = ap (λ b. is_as t || b) (as_same x)
+
+names_same : {ts us : List Token} → Caps ts us → gives_name ts ≡ gives_name us
+names_same Caps.no_caps = refl
+names_same (Caps.cap_number x) = refl
+names_same (Caps.cap_same {t = token.Word w} x) = ap (λ b. is_naming (verb_of w) || b) (as_same x)
+names_same (Caps.cap_same {t = token.Number n} x) = refl
+names_same (Caps.cap_same {t = token.Letter l} x) = refl
+names_same (Caps.cap_same {t = token.As} x) = refl
+names_same (Caps.cap_same {t = token.Sign s} x) = refl
+
+line_same : (s g : ℕ) {ts us : List Token} → Caps ts us → line_limit s g ts ≡ line_limit s g us
+line_same s g x =
+    let a = names_same x in
+    let b = tokens_same x in
+    cc
+
+-- A statement without a limit has the same tokens.
+within_equal_at : (w : List ℕ) (v : Verb) {ts us : List Token} → Caps ts us → verb_of w ≡ Some v → operands_limit (verb_of w) us ≡ None → ts ≡ us
+within_equal_at w v {ts} {us} x e f = caps_equal (seen_of v) x (subst (λ q. operands_limit q us ≡ None) e f)
+
+within_equal : {ts us : List Token} {f : Form} → Caps ts us → IsStatement us f → tokens_limit us ≡ None → ts ≡ us
+within_equal Caps.no_caps y h = elim y [ ]
+within_equal (Caps.cap_number x) y h = elim y [ ]
+within_equal (Caps.cap_same x) (IsStatement.says {w = w} {v = v} e y) h = cons_same refl (within_equal_at w v x e h)
+
+line_within : (s g : ℕ) (us : List Token) → line_limit s g us ≡ None → tokens_limit us ≡ None
+line_within s g us e = grind (arith, nat_tests)
+
+-- What the reader of a line finds.
+pub no_tokens_no_form : (l : List ℕ) → ((us : List Token) → IsTokens (content l) us → ⊥) → (f : Form) → StandsFor l f → ⊥
+no_tokens_no_form l h f x = let e = exact_tokens x.1 in h e.0 e.1
+
+pub no_statement_no_form : (l : List ℕ) (us : List Token) → IsTokens (content l) us → ((f : Form) → IsStatement us f → ⊥) → (f : Form) → StandsFor l f → ⊥
+no_statement_no_form l us y h f x =
+    let e = exact_tokens x.1 in
+    let g = shape_statement x.2 (caps_shape e.2) in
+    h g.0 (subst (λ q. IsStatement q g.0) (tokens_once (content l) e.0 us e.1 y) g.1)
+
+pub size_said : (s g : ℕ) (l : List ℕ) (us : List Token) (f : Form) (k : SizeKind) → is_blank l ≡ false → IsTokens (content l) us → IsStatement us f → line_limit s g us ≡ Some k
+    → LineSays s g l (line.Size k)
+size_said s g l us f k b x y e =
+    let t = tokens_exact x in
+    let z = shape_statement y (caps_back t.2) in
+    LineSays.too_large b t.1 z.1 (line_same s g t.2 ∙ e)
+
+pub form_said : (s g : ℕ) (l : List ℕ) (us : List Token) (f : Form) (named : Bool) → is_blank l ≡ false → IsTokens (content l) us → IsStatement us f → line_limit s g us ≡ None
+    → named ≡ gives_name us → LineSays s g l (line.Says f named)
+form_said s g l us f named b x y e k =
+    let t = tokens_exact x in
+    let q = within_equal t.2 y (line_within s g us e) in
+    subst (λ v. LineSays s g l (line.Says f v)) (sym k) (LineSays.statement b (subst (λ r. IsExact (content l) r) q t.1) y e)

@@ -1,0 +1,4 @@
+pub mod Caps
+pub mod Lines
+pub mod OneScript
+pub mod Shapes

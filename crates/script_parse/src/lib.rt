@@ -1,0 +1,13 @@
+//! Scripts: the limits in a line, what a line says, and the reader of a script with its first fault.
+#![tactic(auto)]
+
+pub mod laws;
+mod limit;
+mod line;
+mod script;
+#[cfg(test)]
+mod tests;
+
+pub use limit::{Seen, Spot};
+pub use line::Line;
+pub use script::{Refused, parse};

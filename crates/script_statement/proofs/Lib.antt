@@ -1,0 +1,4 @@
+pub mod Ends
+pub mod OneForm
+pub mod Refused
+pub mod There
