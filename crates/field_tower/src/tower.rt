@@ -5,13 +5,7 @@ ghost use Rattle.residue_field.specs.Top.{Top, IsTop, top_ops, top_code, ops_of_
 ghost use Rattle.residue_field.proofs.TopLaws.{top_field};
 ghost use Rattle.residue_field.proofs.TopFrob.{top_frob_field};
 ghost use Rattle.residue_field.specs.declared.TheConstants.{WIDTH};
-<<<<<<< HEAD
-ghost use Rattle.field_tower.specs.Images.{image_of};
-=======
-ghost use Rattle.field_tower.specs.Places.{IsModulus, residue_at};
-ghost use Rattle.field_tower.specs.Pairs.{IsPair, PassesAt};
 ghost use Rattle.field_tower.specs.Images.{frob_image};
->>>>>>> 347520d
 
 use super::accept::find_pair;
 use super::base::BaseField;

@@ -16,22 +16,22 @@ use Rattle.script_lang.proofs.Equal.{same_some, cons_same, rest_is_drop}
 use Rattle.script_lang.specs.Lines.{is_space}
 use Rattle.script_lang.specs.Tokens.{sign_of, is_word_byte, word_token, capped, BeginsWith, IsTokens}
 
-space_no_sign : (b : ℕ) (t : Sign) → is_space b ≡ true → sign_of b ≡ Some t → ⊥
+pub space_no_sign : (b : ℕ) (t : Sign) → is_space b ≡ true → sign_of b ≡ Some t → ⊥
 space_no_sign b t h k = grind (arith, nat_tests)
 
-space_no_digit : (b : ℕ) → is_space b ≡ true → is_ascii_digit b ≡ true → ⊥
+pub space_no_digit : (b : ℕ) → is_space b ≡ true → is_ascii_digit b ≡ true → ⊥
 space_no_digit b h k = grind (arith, nat_tests)
 
-space_no_letter : (b : ℕ) → is_space b ≡ true → is_ascii_alphabetic b ≡ true → ⊥
+pub space_no_letter : (b : ℕ) → is_space b ≡ true → is_ascii_alphabetic b ≡ true → ⊥
 space_no_letter b h k = grind (arith, nat_tests)
 
-digit_no_sign : (b : ℕ) (t : Sign) → is_ascii_digit b ≡ true → sign_of b ≡ Some t → ⊥
+pub digit_no_sign : (b : ℕ) (t : Sign) → is_ascii_digit b ≡ true → sign_of b ≡ Some t → ⊥
 digit_no_sign b t h k = grind (arith, nat_tests)
 
-digit_no_letter : (b : ℕ) → is_ascii_digit b ≡ true → is_ascii_alphabetic b ≡ true → ⊥
+pub digit_no_letter : (b : ℕ) → is_ascii_digit b ≡ true → is_ascii_alphabetic b ≡ true → ⊥
 digit_no_letter b h k = grind (arith, nat_tests)
 
-letter_no_sign : (b : ℕ) (t : Sign) → is_ascii_alphabetic b ≡ true → sign_of b ≡ Some t → ⊥
+pub letter_no_sign : (b : ℕ) (t : Sign) → is_ascii_alphabetic b ≡ true → sign_of b ≡ Some t → ⊥
 letter_no_sign b t h k = grind (arith, nat_tests)
 
 space_begins_no_token : {b : ℕ} {bs rest : List ℕ} {t : Token} → is_space b ≡ true → BeginsWith (b ∷ bs) t rest → ⊥

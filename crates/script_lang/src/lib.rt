@@ -12,6 +12,7 @@ mod sum;
 #[cfg(test)]
 mod tests;
 
+pub use front::{after_sign, first, number, word};
 pub use form::{Form, Script, SizeKind, Statement};
 pub use lexer::{Letter, NUMBER_TOP, Sign, Token, is_word, tokens};
 pub use line::{content_of, is_blank, next_line};
