@@ -7,6 +7,6 @@ pub mod CodeDigits
 pub mod BaseValues
 pub mod BaseTables
 pub mod TopValues
+pub mod FrobMap
 pub mod Kernels
 pub mod PairValues
-pub mod FrobMap

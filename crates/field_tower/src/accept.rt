@@ -23,7 +23,7 @@ use ring_core::{Field, NoMemory};
 use std::alloc::Global;
 
 /// The residue of the power `j` of the letter.
-fn unit(base: &BaseField, n: usize, j: usize) -> TopElem
+pub(crate) fn unit(base: &BaseField, n: usize, j: usize) -> TopElem
     requires place { j < n }
     requires room { n ≤ WIDTH }
     ensures { result ≡ letter_power base.now n j }

@@ -2,28 +2,17 @@ ghost use Rattle.std.specs.Prelude.{◌≡◌, ℕ, ◌-◌, ◌+◌, ◌*◌, �
 ghost use Rattle.ring_core.specs.Ring.{IsElem};
 ghost use Rattle.ring_core.specs.Coeffs.{are_elems, first_values};
 ghost use Rattle.residue_field.specs.declared.TheConstants.{WIDTH};
-ghost use Rattle.residue_field.specs.Residue.{residue_unit};
-ghost use Rattle.residue_field.specs.TopElem.{top_places};
 ghost use Rattle.residue_field.specs.Base.{ops_of};
 ghost use Rattle.field_tower.specs.Places.{IsModulus, stored};
 ghost use Rattle.field_tower.specs.Images.{frob_image, image_at, combined};
 
+use super::accept::unit;
 use super::base::BaseField;
 use super::places;
 use residue_field::{Code, TopElem};
 use ring_core::lists::coeff_at;
 use ring_core::{Field, NoMemory};
 use std::alloc::Global;
-
-/// The residue of the power `j` of the letter, modulo a polynomial of a degree above `j`.
-fn unit(base: &BaseField, j: usize) -> TopElem
-    requires { j < WIDTH }
-    ensures { (d : ℕ) → j ≤ d → result ≡ residue_unit (ops_of base.now) (top_places (ops_of base.now) d) j }
-{
-    let mut places = places::zeros(base);
-    places[j] = base.one();
-    TopElem(places)
-}
 
 /// The image that comes after the first `m` images: a power of the letter, or the power by `q` of the
 /// image `n` places before.
@@ -34,7 +23,7 @@ fn next_image(base: &BaseField, n: usize, modulus: &[Code], images: &[TopElem], 
     ensures { result ≡ frob_image base.now n modulus.now m }
 {
     if m < n {
-        return unit(base, m);
+        return unit(base, n, m);
     }
     let image = images[m - n];
     places::power(base, modulus, image, base.q())

@@ -1,4 +1,4 @@
-ghost use Rattle.std.specs.Prelude.{◌≡◌, ◌-◌, ◌+◌, ◌*◌, ◌<◌, ◌≤◌, ◌^◌, true};
+ghost use Rattle.std.specs.Prelude.{◌≡◌, ◌*◌, true};
 ghost use Rattle.ring_core.specs.Coeffs.{are_elems, first_values};
 ghost use Rattle.residue_field.specs.Base.{ops_of, size_of};
 ghost use Rattle.residue_field.specs.Top.{Top, IsTop, top_ops, top_code, ops_of_top, inverse_of_top, frob_of_top, letter_of};

@@ -15,7 +15,7 @@ returns-then-m-n c =
     let low : c.args.m < n = c.if-m-n.true in
     let positive : 0 < n = omega arith in
     let shape = shape_from base n modulus c.requires.degree c.requires.monic in
-    c.unit.ensures (n - 1) (omega arith) ∙ image_first base n modulus positive shape c.args.m low
+    c.unit.ensures ∙ image_first base n modulus positive shape c.args.m low
 
 pub offset_bounds-images-m : goal.offset_bounds-images-m
 offset_bounds-images-m c =
