@@ -12,8 +12,8 @@ mod sum;
 #[cfg(test)]
 mod tests;
 
-pub use front::{after_sign, first, number, word};
 pub use form::{Form, Script, SizeKind, Statement};
+pub use front::{after_sign, first, number, word};
 pub use lexer::{Letter, NUMBER_TOP, Sign, Token, is_word, tokens};
 pub use line::{content_of, is_blank, next_line};
 pub use operand::{DEEPEST, read_leaded_sum, read_list, read_module, read_name, read_twisted};
