@@ -4,6 +4,8 @@
 #[cfg(test)]
 mod first_scripts;
 #[cfg(test)]
+mod irreducible;
+#[cfg(test)]
 mod outside;
 #[cfg(test)]
 mod plain_count;
