@@ -1,0 +1,138 @@
+//! How long the kernel of a linear system takes, and how many products of the field it makes. With the
+//! word `linear` two large systems are measured; with no word small ones, whose products are compared
+//! with a bound.
+#![tactic(auto)]
+
+ghost use Rattle.std.specs.Prelude.{◌≡◌, true};
+ghost use Rattle.linear_algebra.specs.Linear.{are_rows};
+
+mod counting;
+mod random;
+
+use counting::counting;
+use field_tower::BaseField;
+use fq_linear::{Rows, kernel};
+use random::{Random, Shape, random_rows};
+use ring_core::{E, Field};
+use std::process::ExitCode;
+use std::time::{Duration, Instant};
+use std::{env, io};
+
+/// What a kernel cost: products of the field, and time.
+#[derive(Drop)]
+struct Cost {
+    rows: usize,
+    width: usize,
+    rank: usize,
+    products: u64,
+    time: Duration,
+}
+
+impl Cost {
+    /// The most products that the kernel may make: `2 * rows * rank * (rows + width)`.
+    fn bound(&self) -> u64 {
+        2u64.saturating_mul(self.rows as u64)
+            .saturating_mul(self.rank as u64)
+            .saturating_mul((self.rows as u64).saturating_add(self.width as u64))
+    }
+
+    fn is_within(&self) -> bool {
+        self.products <= self.bound()
+    }
+}
+
+fn no_memory() -> io::Error {
+    io::Error::from(io::ErrorKind::OutOfMemory)
+}
+
+/// Runs the kernel of the rows over a field that counts. Its rank is the number of rows less that of
+/// independent relations.
+fn measure<K: Field>(rt: &HostRuntime, field: &K, rows: &Rows<E<K>>) -> io::Result<Cost>
+    requires { are_rows (K.ops field.now) rows.now.width rows.now.rows ≡ true }
+{
+    let counting_field = counting(field);
+    let start = Instant::now(rt)?;
+    let Ok(relations) = kernel(rt.alloc(), &counting_field, rows) else {
+        return Err(no_memory());
+    };
+    let time = start.elapsed(rt)?;
+    Ok(Cost {
+        rows: rows.len(),
+        width: rows.width(),
+        rank: rows.len().saturating_sub(relations.len()),
+        products: counting_field.products(),
+        time,
+    })
+}
+
+/// `a^8 + a^4 + a^3 + a + 1` over two elements: 256 residues.
+const BYTES: [u32; 9] = [1, 1, 0, 1, 1, 0, 0, 0, 1];
+
+/// `a` over two elements: the two elements themselves.
+const BITS: [u32; 2] = [0, 1];
+
+/// The cost of a system over the residues modulo 2 and this modulus of degree `s`, with this many rows,
+/// places of a row, and places of a row that are drawn.
+fn cost_of(rt: &HostRuntime, s: u32, modulus: &[u32], sizes: [usize; 3]) -> io::Result<Cost> {
+    let Ok(field) = BaseField::make(rt.alloc(), 2, s, modulus) else {
+        return Err(no_memory());
+    };
+    let [rows, width, drawn] = sizes;
+    let shape = Shape { rows, width, drawn };
+    let mut random = Random::new(2026);
+    let Ok(rows) = random_rows(rt.alloc(), &field, &mut random, &shape) else {
+        return Err(no_memory());
+    };
+    measure(rt, &field, &rows)
+}
+
+fn print(rt: &HostRuntime, name: &str, cost: &Cost) -> io::Result<()> {
+    let millis = cost.time.as_millis();
+    println!(rt;
+        "{name}: {} rows of {} places, rank {}",
+        cost.rows, cost.width, cost.rank
+    )?;
+    println!(rt; "  seconds {}.{:03}", millis / 1000, millis % 1000)?;
+    println!(rt; "  products {}, bound {}", cost.products, cost.bound())?;
+    Ok(())
+}
+
+/// Measures a dense system over 256 elements, and a sparse one over two.
+fn large(rt: &HostRuntime) -> io::Result<bool> {
+    let dense = cost_of(rt, 8, &BYTES, [800, 900, 900])?;
+    print(rt, "dense, 256 elements", &dense)?;
+    let sparse = cost_of(rt, 1, &BITS, [520, 584, 40])?;
+    print(rt, "sparse, 2 elements", &sparse)?;
+    Ok(dense.is_within() && sparse.is_within())
+}
+
+/// Compares the products of small systems with the bound, and prints a line that is always the same
+/// where all stay within it. One has more rows than places, so that some depend on others, and one is
+/// all zeros, whose bound is zero.
+fn small(rt: &HostRuntime) -> io::Result<bool> {
+    for sizes in [[40, 45, 45], [45, 40, 40], [40, 45, 5], [40, 45, 0]] {
+        let bytes = cost_of(rt, 8, &BYTES, sizes)?;
+        let bits = cost_of(rt, 1, &BITS, sizes)?;
+        if !bytes.is_within() || !bits.is_within() {
+            return Ok(false);
+        }
+    }
+    println!(rt; "kernel: the count of products is within its bound")?;
+    Ok(true)
+}
+
+fn run(rt: &HostRuntime) -> io::Result<bool> {
+    let words: Vec<String> = env::args(rt)?.skip(1).collect(rt.alloc())?;
+    match words.first() {
+        None => small(rt),
+        Some(word) if word.as_str() == "linear" => large(rt),
+        Some(_) => Ok(false),
+    }
+}
+
+fn main(rt: HostRuntime) -> ExitCode {
+    match run(&rt) {
+        Ok(true) => ExitCode::SUCCESS,
+        _ => ExitCode::FAILURE,
+    }
+}
