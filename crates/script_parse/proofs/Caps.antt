@@ -12,13 +12,12 @@ use Rattle.script_lang.specs.declared.Token.{Token}
 use Rattle.script_lang.specs.declared.Token.TheVariants as token
 use Rattle.script_lang.specs.Lines.{content, is_blank}
 use Rattle.script_lang.specs.Tokens.{is_word_byte, word_token, capped, BeginsWith, IsTokens}
-use Rattle.script_lang.proofs.Equal.{same_some, cons_same}
+use Rattle.script_lang.proofs.Equal.{cons_same}
 use Rattle.script_lang.proofs.Lexing.{tokens_once}
 use Rattle.script_statement.specs.declared.Verb.{Verb}
 use Rattle.script_statement.specs.Verbs.{verb_of}
 use Rattle.script_statement.specs.Statements.{IsStatement}
 use Rattle.script_parse.specs.declared.limit.Seen.{Seen}
-use Rattle.script_parse.specs.declared.line.Line.{Line}
 use Rattle.script_parse.specs.declared.line.Line.TheVariants as line
 use Rattle.script_parse.specs.Exact.{IsExact, StandsFor}
 use Rattle.script_parse.specs.Limits.{limit_at, number_limit, after, seen_of, first_kind, is_empty, first_limit, operands_limit, tokens_limit, is_as, is_naming, gives_name, line_limit}

@@ -2,3 +2,4 @@ pub mod Caps
 pub mod Lines
 pub mod OneScript
 pub mod Shapes
+pub mod Powers

@@ -5,7 +5,7 @@ use Rattle.script_lang.specs.declared.Form.{Form}
 use Rattle.script_lang.specs.declared.SizeKind.{SizeKind}
 use Rattle.script_lang.specs.declared.Statement.{Statement}
 use Rattle.script_lang.specs.Lines.{lines, with_first}
-use Rattle.script_lang.proofs.Equal.{same_head, same_tail}
+use Rattle.script_lang.proofs.Equal.{same_head}
 use Rattle.script_parse.specs.declared.line.Line.TheVariants as line
 use Rattle.script_parse.specs.declared.script.Refused.{Refused}
 use Rattle.script_parse.specs.declared.script.Refused.TheVariants as refused

@@ -1,5 +1,5 @@
 -- A line says one thing, so lines are one script or have one first fault, and not both.
-use Rattle.std.proofs.Common.{◌≡◌, ℕ, ◌+◌, Bool, true, false, Some, None, List, [], ◌∷◌, length, refl, sym, ap, ◌∙◌, subst}
+use Rattle.std.proofs.Common.{◌≡◌, ℕ, ◌+◌, Bool, List, length, refl, sym, ap, ◌∙◌, subst}
 use Rattle.std.specs.Str.Lines.{strip_carriage_return}
 use Rattle.script_lang.specs.declared.Form.{Form}
 use Rattle.script_lang.specs.declared.SizeKind.{SizeKind}

@@ -1,9 +1,9 @@
 -- Tokens that differ in their numbers alone, 0 and not 0, are statements alike.
-use Rattle.std.proofs.Common.{◌≡◌, ◌≢◌, ℕ, Bool, true, false, if◌then◌else◌, List, [], ◌∷◌, Option, Some, None, refl, sym, ap, ◌∙◌, subst}
+use Rattle.std.proofs.Common.{◌≡◌, ℕ, Bool, true, false, if◌then◌else◌, List, [], ◌∷◌, Option, Some, None, refl, ap, ◌∙◌, subst}
 use Rattle.script_lang.specs.declared.Letter.{Letter}
 use Rattle.script_lang.specs.declared.Letter.TheVariants as letter
 use Rattle.script_lang.specs.declared.Sign.{Sign}
-use Rattle.script_lang.specs.declared.Sign.TheVariants.{Minus, Star, Close, CloseList, Comma, Equals}
+use Rattle.script_lang.specs.declared.Sign.TheVariants.{Star, Close, CloseList, Comma, Equals}
 use Rattle.script_lang.specs.declared.Token.{Token}
 use Rattle.script_lang.specs.declared.Token.TheVariants as token
 use Rattle.script_lang.specs.declared.Form.{Form}
@@ -20,7 +20,7 @@ use Rattle.script_lang.specs.declared.OreArg.TheVariants as twisted_operand
 use Rattle.script_lang.specs.declared.Sum.{Sum}
 use Rattle.script_lang.specs.declared.Term.{Term}
 use Rattle.script_lang.specs.Kinds.{letter_factor, takes_a, takes_z}
-use Rattle.script_lang.specs.Grammar.{sum_of, term_of, name_of, deepest, IsExponent, IsLead, IsPlain, IsEnding, IsFactor, IsProduct, IsTerms, IsSum, IsLeadedSum, IsItems, IsList, IsName, IsModOperand, IsOreOperand}
+use Rattle.script_lang.specs.Grammar.{sum_of, term_of, IsExponent, IsLead, IsPlain, IsEnding, IsFactor, IsProduct, IsTerms, IsSum, IsLeadedSum, IsItems, IsList, IsName, IsModOperand, IsOreOperand}
 use Rattle.script_statement.specs.declared.Verb.{Verb}
 use Rattle.script_statement.specs.declared.ModuleVerb.{ModuleVerb}
 use Rattle.script_statement.specs.declared.PairVerb.{PairVerb}

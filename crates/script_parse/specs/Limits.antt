@@ -1,5 +1,5 @@
 -- The limits in a line: the table by token, and their order.
-use Rattle.std.specs.Prelude.{ℕ, ◌-◌, ◌||◌, ◌&&◌, ◌==◌, nat_lt, nat_le, if◌then◌else◌, Bool, true, false, Option, Some, None, List, [], ◌∷◌, length}
+use Rattle.std.specs.Prelude.{◌<◌, ◌≤◌, ◌^◌, ℕ, ◌-◌, ◌||◌, ◌&&◌, ◌==◌, nat_lt, nat_le, if◌then◌else◌, Bool, true, false, Option, Some, None, List, [], ◌∷◌, length}
 use Rattle.std.specs.List.{list_any}
 use Rattle.script_lang.specs.declared.Letter.{Letter}
 use Rattle.script_lang.specs.declared.Letter.TheVariants as letter
@@ -25,6 +25,10 @@ is_listed p = (p == 2) || (p == 3) || (p == 5) || (p == 7) || (p == 11) || (p ==
 -- The greatest exponent with which the power of a listed prime is at most 256.
 abbrev pub greatest_power : ℕ → ℕ
 greatest_power p = if p == 2 then 8 else if p == 3 then 5 else if p == 5 then 3 else if nat_lt p 17 then 2 else 1
+
+-- `g` is the greatest exponent with a power of `p` of at most 256, told at the exponent `s`.
+abbrev pub IsGreatestPower : ℕ → ℕ → ℕ → Type 0
+IsGreatestPower p g s = (g < s → 256 < p ^ s) × (s ≤ g → p ^ s ≤ 256)
 
 -- The kind where the number is more than the limit.
 abbrev pub over_limit : ℕ → ℕ → SizeKind → Option SizeKind

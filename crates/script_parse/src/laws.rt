@@ -1,6 +1,7 @@
 //! What holds of the definitions of lines and scripts; each law is the contract of a function.
 
-ghost use Rattle.std.specs.Prelude.{◌≡◌, ℕ, List};
+ghost use Rattle.std.specs.Prelude.{◌≡◌, ℕ, List, true};
+ghost use Rattle.script_parse.specs.Limits.{is_listed, greatest_power, IsGreatestPower};
 ghost use Rattle.script_lang.specs.declared.Form.{Form};
 ghost use Rattle.script_lang.specs.declared.Statement.{Statement};
 ghost use Rattle.script_parse.specs.declared.script.Refused.{Refused};
@@ -25,4 +26,9 @@ pub fn one_fault()
 /// Lines with a fault are no script.
 pub fn script_or_fault()
     ensures { (n at s g : ℕ) (ls : List (List ℕ)) (xs : List Statement) (r : Refused) → IsScript n at s g ls xs → FirstFault n s g ls r → ⊥ }
+{}
+
+/// The table of greatest exponents says which powers of a listed prime are at most 256.
+pub fn greatest_powers()
+    ensures { (p s : ℕ) → is_listed p ≡ true → IsGreatestPower p (greatest_power p) s }
 {}

@@ -177,3 +177,12 @@ fn places_of_statements(rt: HostRuntime) -> Result<(), Fail> {
     }
     Ok(())
 }
+
+#[test]
+fn a_line_of_sixty_thousand_bytes(rt: HostRuntime) -> Result<(), Fail> {
+    let terms = repeated(rt.alloc(), b"+1", 29996, b"\n")?;
+    let mut text = repeated(rt.alloc(), b"ore u = 1", 1, b"")?;
+    text.extend_from_slice(&terms)?;
+    assert_eq!(rt; fault_of(rt.alloc(), &text), None);
+    Ok(())
+}

@@ -1,5 +1,5 @@
-use Rattle.std.proofs.Common.{◌≡◌, false, Some, None, rules}
-use Rattle.script_lang.specs.Lines.{content, is_blank}
+use Rattle.std.proofs.Common.{rules}
+use Rattle.script_lang.specs.Lines.{content}
 use Rattle.script_lang.specs.Tokens.{IsTokens}
 use Rattle.script_statement.specs.Statements.{IsStatement}
 use Rattle.script_parse.specs.Says.{LineSays}

@@ -1,4 +1,4 @@
-use Rattle.std.proofs.Common.{◌≡◌, ◌+◌, ◌<◌, ◌≤◌, ◌∷◌, length, arith, rules}
+use Rattle.std.proofs.Common.{◌≡◌, ◌+◌, ◌<◌, ◌≤◌, ◌∷◌, length, rules}
 use Rattle.script_lang.specs.Lines.{lines}
 use Rattle.script_parse.specs.declared.line.Line.TheVariants as line
 use Rattle.script_parse.specs.Says.{LineSays}
