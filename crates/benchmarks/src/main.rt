@@ -83,6 +83,9 @@ fn cost_of(rt: &HostRuntime, s: u32, modulus: &[u32], sizes: [usize; 3]) -> io::
     let Ok(rows) = random_rows(rt.alloc(), &field, &mut random, &shape) else {
         return Err(no_memory());
     };
+    if rows.len() != shape.rows {
+        return Err(io::Error::from(io::ErrorKind::InvalidData));
+    }
     measure(rt, &field, &rows)
 }
 
