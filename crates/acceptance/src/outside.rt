@@ -1,6 +1,6 @@
 //! Words, reading and writing: whose fault a status is.
 
-use super::runs::{check_run, check_script, sink_of, source_of};
+use super::runs::{check_run, sink_of, source_of};
 use std::alloc::Global;
 use std::process::Abort;
 use std::test::Fail;
@@ -8,12 +8,34 @@ use text_io::{MemSink, Source};
 
 const SCRIPT: &[u8] = b"base 2\nover 2 z^2+z+1\ncheck [z, 1] [z, z] [z+1]\n";
 
+/// Runs a comment of this many bytes.
+fn check_comment(
+    rt: &impl Abort,
+    alloc: Global,
+    bytes: usize,
+    errors: MemSink,
+    want: (u8, &[u8]),
+) -> Result<(), Fail> {
+    let script = vec![in alloc; b'#'; bytes]?;
+    let mut input = source_of(alloc, &script, 4096, &[])?;
+    let sinks = (sink_of(alloc, &[])?, errors);
+    check_run(rt, alloc, &[], &mut input, sinks, (want.0, b"", want.1))
+}
+
 #[test]
 fn refuses_a_long_script(rt: HostRuntime) -> Result<(), Fail> {
-    let long = vec![in rt.alloc(); b'#'; 65537]?;
-    check_script(&rt, rt.alloc(), &long, (4, b"", b"too large: script\n"))?;
-    let longest = vec![in rt.alloc(); b'#'; 65536]?;
-    check_script(&rt, rt.alloc(), &longest, (9, b"", b"not built yet\n"))
+    let alloc = rt.alloc();
+    let line = b"too large: script\n";
+    check_comment(&rt, alloc, 65537, sink_of(alloc, &[])?, (4, line))?;
+    check_comment(&rt, alloc, 65537, sink_of(alloc, &[1])?, (4, b""))?;
+    check_comment(
+        &rt,
+        alloc,
+        65536,
+        sink_of(alloc, &[])?,
+        (9, b"not built yet\n"),
+    )?;
+    check_comment(&rt, alloc, 65536, sink_of(alloc, &[1])?, (9, b""))
 }
 
 /// Runs with a word, and sees that the first call of the source is still to come.
