@@ -83,6 +83,12 @@ expect 'a full output' 8 '' 'write failed'
 status=$?
 [[ $status -eq 2 ]] || fail "closed errors: status $status, not 2"
 
+# Each example has its expected output beside it.
+for example in examples/*.drinfeld; do
+    run <"$example"
+    expect "$example" 0 "$(<"${example%.drinfeld}.expected")" ''
+done
+
 # The launcher finds the program from any folder, and through a link.
 ln -s "$PWD/drinfeld" "$folder/link"
 (cd "$folder" && ./link <<<"$script" >output 2>errors)
