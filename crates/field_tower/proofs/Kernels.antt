@@ -5,13 +5,13 @@ use Rattle.std.proofs.lemmas.Bool.{and_from, cases_lt, cond_both}
 use Rattle.ring_core.specs.Ring.{RingOps, IsElem, IsRing}
 use Rattle.ring_core.specs.Coeffs.{coeff, sum_below, first_values}
 use Rattle.ring_core.proofs.Carrier.{elements, mul_zero}
-use Rattle.ring_core.proofs.Coefficients.{coeff-first_values, length-first_values, elems-first_values, values_by_coeffs}
+use Rattle.ring_core.proofs.Coefficients.{coeff-first_values, elems-first_values, values_by_coeffs}
 use Rattle.ring_core.proofs.Twist.{sum_of_zeros, sum_same}
+use Rattle.ring_core.proofs.FirstValues.{length-first_values, at-first_values}
 use Rattle.linear_algebra.specs.Combines.{combined}
 use Rattle.linear_algebra.specs.Linear.{row_at, entry, is_row, are_rows, IsCombination, IsRelation, IsEchelonBasis}
 use Rattle.linear_algebra.proofs.RowLists.{rows_at, rows_by_places, rows_in}
 use Rattle.linear_algebra.proofs.Lift.{combines_row}
-use Rattle.fq_linear.proofs.Tables.{length-values, at-first_values}
 use Rattle.residue_field.specs.declared.TopElem.{TopElem}
 use Rattle.residue_field.specs.declared.TheConstants.{WIDTH}
 use Rattle.residue_field.specs.Residue.{IsPlaces}
@@ -35,11 +35,6 @@ place_default (x ∷ xs) (suc i) d e l = place_default xs i d e (omega arith)
 
 pub place_read : (r : RingOps ℕ) (u : List ℕ) (i x : ℕ) → i < length u → x ≡ get_or u i x → x ≡ coeff r u i
 place_read r u i x l e = e ∙ place_default u i x r.zero l
-
--- one row more
-pub values_next : {T : Type 0} (n : ℕ) (f : ℕ → T) → first_values n f ++ f n ∷ [] ≡ first_values (suc n) f
-values_next zero f = refl
-values_next (suc n) f = ap (λ u. f 0 ∷ u) (values_next n (λ i. f (suc i)))
 
 module _ (base : Base) (n : ℕ) (modulus : List ℕ) (len : length modulus ≡ n + 1) (monic : IsModulus (ops_of base) modulus) where
   shape : IsTopShape base (n - 1) modulus
@@ -151,7 +146,7 @@ module _ (base : Base) (n : ℕ) (modulus : List ℕ) (len : length modulus ≡ 
     row_shape : (j : ℕ) → is_row (ops_of base) n (row j) ≡ true
     unfolding row
     row_shape j =
-        and_from _ _ (eq-eqb _ n (length-first_values (ops_of base) n _))
+        and_from _ _ (eq-eqb _ n (length-first_values n _))
         (elems-first_values (ops_of base) n (coeff (ops_of base) (top_image base n modulus less (letter_power base n j)).0)
         (λ i l. residue_place_in _ (image_in _ (letter_power_in j)) i))
 
@@ -164,7 +159,7 @@ module _ (base : Base) (n : ℕ) (modulus : List ℕ) (len : length modulus ≡ 
 
     module _ (rows : List (List ℕ)) (are : rows ≡ first_values n (image_row base n modulus less)) where
       pub rows_count : length rows ≡ n
-      rows_count = ap length are ∙ length-values n (image_row base n modulus less)
+      rows_count = ap length are ∙ length-first_values n (image_row base n modulus less)
 
       rows_is : (j : ℕ) → j < n → row_at rows j ≡ row j
       unfolding row
@@ -224,7 +219,7 @@ module _ (base : Base) (n : ℕ) (modulus : List ℕ) (len : length modulus ≡ 
                   let c = first_values n (coeff (ops_of base) x.0) in
                   let place = coeff-first_values (ops_of base) n (coeff (ops_of base) x.0) (residue_past x e) in
                   let shaped : is_row (ops_of base) (length rows) c ≡ true =
-                  and_from _ _ (eq-eqb _ _ (length-first_values (ops_of base) n (coeff (ops_of base) x.0) ∙ sym rows_count))
+                  and_from _ _ (eq-eqb _ _ (length-first_values n (coeff (ops_of base) x.0) ∙ sym rows_count))
                   (elems-first_values (ops_of base) n (coeff (ops_of base) x.0) (λ j m. residue_place_in x e j)) in
                   let relation : IsRelation (ops_of base) rows c = λ j. elim (cases_lt j n) [
                     | inl m ↦ combined_image x (coeff (ops_of base) c) e (λ k b. place k) j m ∙ ap (λ y. coeff (ops_of base) y.0 j) none ∙ zero_place j

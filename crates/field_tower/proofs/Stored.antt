@@ -4,7 +4,8 @@ use mathlib.Core.Path.{fun_ext}
 use Rattle.std.proofs.lemmas.Bool.{and_parts, and_from, and_left, and_right, cond-true, cond-false, cases_lt}
 use Rattle.ring_core.specs.Ring.{RingOps, IsElem, IsRing, IsCommutative}
 use Rattle.ring_core.specs.Coeffs.{coeff, are_elems, first_values}
-use Rattle.ring_core.proofs.Coefficients.{elem_read, coeff_past, values_same, values-coeff, coeff-first_values}
+use Rattle.ring_core.proofs.Coefficients.{elem_read, coeff_past, values-coeff, coeff-first_values}
+use Rattle.ring_core.proofs.FirstValues.{values_same}
 use Rattle.residue_field.specs.declared.TopElem.{TopElem}
 use Rattle.residue_field.specs.declared.TheConstants.{WIDTH}
 use Rattle.residue_field.specs.Residue.{constant_at, IsMonic, IsPlaces}
@@ -58,7 +59,7 @@ module _ (r : RingOps ℕ) (d : ℕ) where
   stored_from u g len low past =
       ap top_elem
       (sym (values-coeff r u) ∙ ap (λ w. first_values w (coeff r u)) len
-      ∙ values_same r WIDTH (coeff r u) (cut g) (λ i l. elim (cases_lt i (suc d)) [
+      ∙ values_same WIDTH (coeff r u) (cut g) (λ i l. elim (cases_lt i (suc d)) [
         | inl m ↦ low i m ∙ sym (cut_low g i m)
         | inr m ↦ past i m ∙ sym (cut_past g i m)
       ]))

@@ -4,6 +4,7 @@ use Rattle.std.proofs.Common.{◌≡◌, ◌≢◌, ℕ, zero, suc, ◌-◌, ◌
 use Rattle.std.proofs.lemmas.Bool.{cases_eq}
 use Rattle.ring_core.specs.Coeffs.{first_values}
 use Rattle.ring_core.proofs.Carrier.{RingOn}
+use Rattle.ring_core.proofs.FirstValues.{length-first_values}
 use Rattle.finite_ring.proofs.Powers.{power, mul_swap, mul_exchange, zero-power}
 use Rattle.finite_ring.proofs.Counted.{IsCounted, NoPair, mul_cancel, same_index, cases_same}
 
@@ -58,10 +59,6 @@ apart-values (suc n) f inj = (
       absurd (omega arith)),
   apart-values n (λ i. f (suc i)) (λ i j l m e. let d : suc i ≡ suc j = inj (suc i) (suc j) (omega arith) (omega arith) e in omega arith),
 )
-
-length-values : {M : Type 0} (n : ℕ) (f : ℕ → M) → length (first_values n f) ≡ n
-length-values zero f = refl
-length-values (suc n) f = ap suc (length-values n (λ i. f (suc i)))
 
 -- members of the multiples of a list
 member-map : {M : Type 0} (f : M → M) (xs : List M) (z : M) → Member z (map f xs) → (w : M) × (Member w xs) × (z ≡ f w)
@@ -163,7 +160,7 @@ module _ {M : Type 0} (R : RingOn M) (comm : (a b : M) → R.mul a b ≡ R.mul b
       let product = product_of R units in
       mul_cancel R count fin no_pair product (power R c (count - 1)) R.one (product_nonzero R comm no_pair ne units units_nonzero)
       (comm product (power R c (count - 1))
-      ∙ ap (λ n. R.mul (power R c n) product) (sym (length-values (count - 1) (λ i. fin.nth (suc i))))
+      ∙ ap (λ n. R.mul (power R c n) product) (sym (length-first_values (count - 1) (λ i. fin.nth (suc i))))
       ∙ sym (product-map R comm c units)
       ∙ same_product R comm (map (R.mul c) units) units
       (apart-map (R.mul c) (λ x y. mul_cancel R count fin no_pair c x y nc) units units_apart)

@@ -6,7 +6,8 @@ use Rattle.ring_core.specs.Ring.{RingOps, IsElem, IsRing}
 use Rattle.ring_core.specs.Field.{IsField}
 use Rattle.ring_core.specs.Coeffs.{coeff, are_elems, first_values}
 use Rattle.ring_core.proofs.Carrier.{RingOn, Element, elements, same_element}
-use Rattle.ring_core.proofs.Coefficients.{elem_read, coeff_past, length-first_values, elems-first_values}
+use Rattle.ring_core.proofs.Coefficients.{elem_read, coeff_past, elems-first_values}
+use Rattle.ring_core.proofs.FirstValues.{length-first_values, at-first_values}
 use Rattle.linear_algebra.specs.Combines.{Combines, combined, minus, beside}
 use Rattle.linear_algebra.specs.Linear.{entry, is_row, are_rows, IsCombination, IsRelation, IsDependent, IsIndependent, IsSolution, IsEchelonBasis, IsFirstDependence}
 use Rattle.linear_algebra.proofs.Sums.{combine}
@@ -15,7 +16,6 @@ use Rattle.linear_algebra.proofs.Augment.{augmented as augmented_on, Eliminates,
 use Rattle.linear_algebra.proofs.Lift.{AllIn, AreIn, row_of, rows_of, to_spans, from_spans, to_reduced, combines_into, combines_as, combines_rows, combine_value}
 use Rattle.fq_linear.specs.Places.{unit_row}
 use Rattle.fq_linear.specs.Elimination.{row_number, is_lead, numbered_cells, slot, augmented, IsEliminated, IsReducedTarget}
-use Rattle.fq_linear.proofs.Tables.{at-first_values}
 use Rattle.fq_linear.proofs.Slots.{slot_in, augmented_in}
 use Rattle.fq_linear.proofs.Gathered.{low_cells, low_shape, low_same, cut_length}
 use Rattle.fq_linear.proofs.Places.{elems_range, range_place}
@@ -165,7 +165,7 @@ module _ {E : Type 0} (r : RingOps E) (inv : E → Option E) (field : IsField r 
     -- the negatives of the first places of a row, as coefficients
     negatives_shape : (m : ℕ) (u : List E) → length u ≡ m → are_elems r u ≡ true → is_row r m (first_values (length u) (λ k. r.neg (coeff r u k))) ≡ true
     negatives_shape m u len e =
-        and_from _ _ (eq-eqb _ m (length-first_values r (length u) (λ k. r.neg (coeff r u k)) ∙ len))
+        and_from _ _ (eq-eqb _ m (length-first_values (length u) (λ k. r.neg (coeff r u k)) ∙ len))
         (elems-first_values r (length u) (λ k. r.neg (coeff r u k)) (λ i l. h.closed.neg_in _ (elem_read r u h.closed.zero_in e i)))
 
     combined_first : (m : ℕ) (c : ℕ → E) (u : List E) (j : ℕ) → ((i : ℕ) → i < m → c i ≡ coeff r u i) → combined r m c (entry r rows) j ≡ combined r m (coeff r u) (entry r rows) j

@@ -9,26 +9,9 @@ use Rattle.std.proofs.lemmas.Bool.{and_parts}
 use Rattle.ring_core.specs.Ring.{RingOps, IsElem}
 use Rattle.ring_core.specs.Coeffs.{coeff, are_elems}
 use Rattle.ring_core.proofs.Coefficients.{elem_read}
+use Rattle.ring_core.proofs.FirstValues.{length-first_values, values_pushed, values_same, at-first_values}
 use Rattle.linear_algebra.specs.Linear.{are_rows}
 use Rattle.fq_linear.proofs.Places.{range_place, elems_by_places, elem_as}
-
-pub length-values : {T : Type 0} (n : ℕ) (f : ℕ → T) → length (first_values n f) ≡ n
-length-values zero f = refl
-length-values (suc n) f = ap suc (length-values n (λ i. f (suc i)))
-
-values_more : {T : Type 0} (n : ℕ) (f : ℕ → T) → first_values n f ++ f n ∷ [] ≡ first_values (suc n) f
-values_more zero f = refl
-values_more (suc n) f = ap (λ t. f 0 ∷ t) (values_more n (λ i. f (suc i)))
-
-pub values_alike : {T : Type 0} (n : ℕ) (f g : ℕ → T) → ((i : ℕ) → i < n → f i ≡ g i) → first_values n f ≡ first_values n g
-values_alike zero f g e = refl
-values_alike (suc n) f g e =
-    ap₂ ◌∷◌ (e 0 (omega arith)) (values_alike n (λ i. f (suc i)) (λ i. g (suc i)) (λ i (l : i < n). e (suc i) (omega arith)))
-
-pub at-first_values : {T : Type 0} (n : ℕ) (f : ℕ → T) (i : ℕ) (d : T) → i < n → get_or (first_values n f) i d ≡ f i
-at-first_values zero f i d l = absurd (omega arith)
-at-first_values (suc n) f zero d l = refl
-at-first_values (suc n) f (suc i) d l = at-first_values n (λ j. f (suc j)) i d (omega arith)
 
 -- a row ends within the cells
 pub row_end : (w n i : ℕ) → i < n → i * w + w ≤ n * w
@@ -50,7 +33,7 @@ pub row_at-table : {E : Type 0} (w n : ℕ) (cells : List E) (i : ℕ) → i < n
 row_at-table w n cells i l = at-first_values n (row_cells w cells) i [] l
 
 pub length-table : {E : Type 0} (w n : ℕ) (cells : List E) → length (table_rows w n cells) ≡ n
-length-table w n cells = length-values n (row_cells w cells)
+length-table w n cells = length-first_values n (row_cells w cells)
 
 row_before : {E : Type 0} (w n : ℕ) (cells row : List E) (i : ℕ) → i < n → length cells ≡ n * w → row_cells w (cells ++ row) i ≡ row_cells w cells i
 row_before w n cells row i l e =
@@ -73,8 +56,8 @@ pub rows_pushed : {E : Type 0} (w n : ℕ) (cells row : List E) → length cells
     → table_rows w (n + 1) (cells ++ row) ≡ table_rows w n cells ++ row ∷ []
 rows_pushed w n cells row e f =
     ap (λ m. table_rows w m (cells ++ row)) (add-one n)
-    ∙ sym (values_more n (row_cells w (cells ++ row)))
-    ∙ ap₂ (λ u x. u ++ x ∷ []) (values_alike n _ _ (λ i l. row_before w n cells row i l e)) (row_new w n cells row e f)
+    ∙ sym (values_pushed n (row_cells w (cells ++ row)))
+    ∙ ap₂ (λ u x. u ++ x ∷ []) (values_same n _ _ (λ i l. row_before w n cells row i l e)) (row_new w n cells row e f)
 
 -- the members of rows of elements are elements
 positive : (w n p : ℕ) → p < n * w → 0 < w

@@ -8,11 +8,12 @@ use Rattle.ring_core.specs.Powers.{power_of}
 use Rattle.ring_core.specs.Monomial.{monomial}
 use Rattle.ring_core.specs.Twisted.{product_at}
 use Rattle.ring_core.proofs.Carrier.{elements, zero_mul}
-use Rattle.ring_core.proofs.Coefficients.{elem_read, length-first_values, trim-trimmed, same_coeffs}
+use Rattle.ring_core.proofs.Coefficients.{elem_read, trim-trimmed, same_coeffs}
 use Rattle.ring_core.proofs.PowerLaws.{power_in}
 use Rattle.ring_core.proofs.Twist.{no_twist}
 use Rattle.ring_core.proofs.ListRing.{poly_ring, mul_in, coeff-mul}
 use Rattle.ring_core.proofs.Monomial.{monomial_in, coeff-monomial_same, coeff-monomial_other, product_monomial, product_monomial_below}
+use Rattle.ring_core.proofs.FirstValues.{length-first_values}
 use Rattle.fq_poly.specs.Poly.{poly_mul, poly_ops, letter}
 
 module _ {E : Type 0} (r : RingOps E) where
@@ -22,7 +23,7 @@ module _ {E : Type 0} (r : RingOps E) where
   coeff-low (suc k) u (suc j) l = coeff-low k u j (omega arith)
 
   coeff-high : (k : ℕ) (u : List E) (j : ℕ) → k ≤ j → coeff r (first_values k (λ i. r.zero) ++ u) j ≡ coeff r u (j - k)
-  coeff-high k u j l = get_or-append_right (first_values k (λ i. r.zero)) u k j r.zero (length-first_values r k (λ i. r.zero)) l
+  coeff-high k u j l = get_or-append_right (first_values k (λ i. r.zero)) u k j r.zero (length-first_values k (λ i. r.zero)) l
 
   elems_behind : (k : ℕ) (u : List E) → IsElem r r.zero → are_elems r u ≡ true → are_elems r (first_values k (λ i. r.zero) ++ u) ≡ true
   elems_behind zero u z e = e

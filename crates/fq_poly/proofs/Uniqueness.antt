@@ -6,10 +6,11 @@ use Rattle.ring_core.specs.Field.{IsField}
 use Rattle.ring_core.specs.Coeffs.{coeff, is_canonical, first_values, list_of}
 use Rattle.ring_core.specs.Twisted.{list_add, list_neg}
 use Rattle.ring_core.proofs.Carrier.{RingOn, Element, same_element, elements, add_zero, add_cancel, neg_only, neg_neg, neg_mul, neg_add}
-use Rattle.ring_core.proofs.Coefficients.{length-trim, length-first_values}
+use Rattle.ring_core.proofs.Coefficients.{length-trim}
 use Rattle.ring_core.proofs.Degrees.{degrees_add, poly_no_divisors}
 use Rattle.ring_core.proofs.Twist.{no_twist}
 use Rattle.ring_core.proofs.ListRing.{poly_ring}
+use Rattle.ring_core.proofs.FirstValues.{length-first_values}
 use Rattle.fq_poly.specs.Poly.{poly_mul, poly_ops}
 use Rattle.fq_poly.specs.Laws.{DegreesAdd, DivisionIsUnique}
 
@@ -34,7 +35,7 @@ module _ {M : Type 0} (R : RingOn M) where
 
 module _ {E : Type 0} (r : RingOps E) where
   length-list_of : (n : ℕ) (f : ℕ → E) → length (list_of r n f) ≤ n
-  length-list_of n f = omega (arith, length-trim r (first_values n f), length-first_values r n f)
+  length-list_of n f = omega (arith, length-trim r (first_values n f), length-first_values n f)
 
   length-difference : (s t : List E) (n : ℕ) → length s < n → length t < n → length (list_add r t (list_neg r s)) < n
   length-difference s t n l m =

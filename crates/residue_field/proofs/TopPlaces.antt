@@ -4,7 +4,8 @@ use Rattle.std.proofs.Common.{◌≡◌, inl, inr, ℕ, zero, suc, ◌<◌, ◌�
 use Rattle.std.proofs.lemmas.Bool.{and_parts, and_from, cond_both, cond-true, cond-false, cases_lt}
 use Rattle.ring_core.specs.Ring.{RingOps, IsElem, IsRing, SameDecides}
 use Rattle.ring_core.specs.Coeffs.{coeff, are_elems, first_values}
-use Rattle.ring_core.proofs.Coefficients.{elem_read, length-first_values, elems-first_values, coeff-first_values, values-coeff, same_lists-refl, same_lists-eq}
+use Rattle.ring_core.proofs.Coefficients.{elem_read, elems-first_values, coeff-first_values, values-coeff, same_lists-refl, same_lists-eq}
+use Rattle.ring_core.proofs.FirstValues.{length-first_values}
 use Rattle.residue_field.specs.declared.TopElem.{TopElem}
 use Rattle.residue_field.specs.declared.TheConstants.{WIDTH}
 use Rattle.residue_field.specs.Residue.{IsPlaces}
@@ -61,7 +62,7 @@ module _ (r : RingOps ℕ) (h : IsRing r) (n : ℕ) (fits : suc n ≤ WIDTH) whe
     place_in = λ t i e. elem_read r t.0 h.closed.zero_in (elems_of t e) i;
     place_past = past_of;
     pack_in = λ g e.
-        and_from _ _ (eq-eqb _ _ (length-first_values r WIDTH (cut g)))
+        and_from _ _ (eq-eqb _ _ (length-first_values WIDTH (cut g)))
         (and_from _ _ (elems-first_values r WIDTH (cut g) (λ i l. cut_in g e i))
         (zeros-values r h.closed.zero_in h.equal WIDTH (suc n) (cut g) (cut_past g)));
     place_pack = λ g i e l.

@@ -4,6 +4,7 @@ use Rattle.std.proofs.lemmas.Bool.{and_parts, and_from, and_left, and_right, bot
 use Rattle.std.proofs.lemmas.List.{get_or_past, take_more}
 use Rattle.ring_core.specs.Ring.{RingOps, IsElem, SameDecides}
 use Rattle.ring_core.specs.Coeffs.{coeff, cons_trimmed, trim, is_trimmed, are_elems, is_canonical, same_lists, first_values, list_of}
+use Rattle.ring_core.proofs.FirstValues.{values_pushed, values_same}
 
 module _ {E : Type 0} (r : RingOps E) where
   pub coeff_past : (u : List E) (i : ℕ) → length u ≤ i → coeff r u i ≡ r.zero
@@ -22,20 +23,6 @@ module _ {E : Type 0} (r : RingOps E) where
   elems_take zero u e = refl
   elems_take (suc n) [] e = refl
   elems_take (suc n) (x ∷ xs) e = and_from _ _ (and_parts _ _ e).0 (elems_take n xs (and_parts _ _ e).1)
-
-  -- a list of values
-  pub length-first_values : (n : ℕ) (f : ℕ → E) → length (first_values n f) ≡ n
-  length-first_values zero f = refl
-  length-first_values (suc n) f = ap suc (length-first_values n (λ i. f (suc i)))
-
-  pub values_pushed : (n : ℕ) (f : ℕ → E) → first_values n f ++ f n ∷ [] ≡ first_values (suc n) f
-  values_pushed zero f = refl
-  values_pushed (suc n) f = ap (λ t. f 0 ∷ t) (values_pushed n (λ i. f (suc i)))
-
-  pub values_same : (n : ℕ) (f g : ℕ → E) → ((i : ℕ) → i < n → f i ≡ g i) → first_values n f ≡ first_values n g
-  values_same zero f g e = refl
-  values_same (suc n) f g e =
-      ap₂ ◌∷◌ (e 0 (omega arith)) (values_same n (λ i. f (suc i)) (λ i. g (suc i)) (λ i (l : i < n). e (suc i) (omega arith)))
 
   pub elems-first_values : (n : ℕ) (f : ℕ → E) → ((i : ℕ) → i < n → IsElem r (f i)) → are_elems r (first_values n f) ≡ true
   elems-first_values zero f h = refl

@@ -1,6 +1,7 @@
 pub mod Carrier
 pub mod Series
 pub mod Values
+pub mod FirstValues
 pub mod Coefficients
 pub mod Twist
 pub mod ListRing

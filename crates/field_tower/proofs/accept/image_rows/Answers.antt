@@ -1,9 +1,10 @@
 use Rattle.std.proofs.Common.{◌≡◌, ◌+◌, ◌-◌, suc, [], ◌∷◌, ◌++◌, sym, ap, ap₂, subst, ◌∙◌, arith}
 use Rattle.ring_core.specs.Ring.{IsElem}
 use Rattle.ring_core.specs.Coeffs.{first_values}
+use Rattle.ring_core.proofs.FirstValues.{values_pushed}
 use Rattle.residue_field.specs.Top.{top_ops}
 use Rattle.field_tower.specs.Kernel.{image_row, top_image}
-use Rattle.field_tower.proofs.Kernels.{letter_power_in, image_taken, values_next}
+use Rattle.field_tower.proofs.Kernels.{letter_power_in, image_taken}
 use Rattle.field_tower.proofs.accept.image_rows.Goals as goal
 
 pub image-image-requires-clause-elem : goal.image-image-requires-clause-elem
@@ -32,5 +33,5 @@ loop-j-preserved c =
       rows =
           c.in_ok-push.ensures.rows
           ∙ ap₂ (λ u v. u ++ v ∷ []) c.loop-j.invariant.rows (image_taken base n modulus len monic less j c.image-image.result image c.image-image.ensures.width)
-          ∙ values_next j row ∙ ap (λ k. first_values k row) next;
+          ∙ values_pushed j row ∙ ap (λ k. first_values k row) next;
     }

@@ -1,7 +1,8 @@
 use Rattle.std.proofs.Common.{◌≡◌, length, refl, sym, ap, ◌∙◌, arith}
 use Rattle.ring_core.specs.Coeffs.{coeff, trim}
-use Rattle.ring_core.proofs.Coefficients.{coeff-first_values, length-first_values}
+use Rattle.ring_core.proofs.Coefficients.{coeff-first_values}
 use Rattle.ring_core.proofs.RowSteps.{whole_written}
+use Rattle.ring_core.proofs.FirstValues.{length-first_values}
 use Rattle.fq_poly.proofs.Clearing.{division_done}
 use Rattle.fq_poly.proofs.division.divide_list.Goals as goal
 
@@ -11,7 +12,7 @@ clear_places-requires-clause-places g c =
     let places = c.saturating_sub-places.result in
     let rest : length c.deref_mut.result.now ≡ length c.args.a.now = ap length (c.deref_mut.ensures.value ∙ c.in_ok-rest.ensures) in
     let quotient : length c.deref_mut-2.result.now ≡ places =
-    ap length (c.deref_mut-2.ensures.value ∙ c.in_ok-quotient.ensures.value) ∙ length-first_values r places (λ i. r.zero) in
+    ap length (c.deref_mut-2.ensures.value ∙ c.in_ok-quotient.ensures.value) ∙ length-first_values places (λ i. r.zero) in
     omega (arith, c.saturating_sub-places.ensures)
 
 pub clear_places-requires-clause-zeros : goal.clear_places-requires-clause-zeros

@@ -1,15 +1,16 @@
 use Rattle.std.proofs.Common.{◌≡◌, ◌+◌, ◌<◌, length, refl, sym, ap, ◌∙◌, arith}
 use Rattle.ring_core.specs.Coeffs.{coeff}
 use Rattle.ring_core.specs.Twisted.{product_at}
-use Rattle.ring_core.proofs.Coefficients.{coeff-first_values, length-first_values, values_by_coeffs}
+use Rattle.ring_core.proofs.Coefficients.{coeff-first_values, values_by_coeffs}
 use Rattle.ring_core.proofs.RowSteps.{whole_written}
+use Rattle.ring_core.proofs.FirstValues.{length-first_values}
 use Rattle.fq_poly.proofs.product.product_values.Goals as goal
 
 pub add_rows-requires-clause-room : goal.add_rows-requires-clause-room
 add_rows-requires-clause-room g c =
     let r = g.F.Field.ops c.args.field.now in
     let len = c.in-Some.len in
-    let zeros : length c.deref_mut.result.now ≡ len = ap length (c.deref_mut.ensures.value ∙ c.in_ok-out.ensures.value) ∙ length-first_values r len (λ i. r.zero) in
+    let zeros : length c.deref_mut.result.now ≡ len = ap length (c.deref_mut.ensures.value ∙ c.in_ok-out.ensures.value) ∙ length-first_values len (λ i. r.zero) in
     omega (arith, c.in-Some.ensures)
 
 pub add_rows-requires-clause-zeros : goal.add_rows-requires-clause-zeros
@@ -27,7 +28,7 @@ returns-clause-value g c =
     let out = c.in_ok-out.out in
     let len = c.in-Some.len in
     let written = c.add_rows.new.out in
-    let made : length out.items ≡ len = ap length c.in_ok-out.ensures.value ∙ length-first_values r len (λ i. r.zero) in
+    let made : length out.items ≡ len = ap length c.in_ok-out.ensures.value ∙ length-first_values len (λ i. r.zero) in
     let lent : length c.deref_mut.result.now ≡ length out.items = ap length c.deref_mut.ensures.value in
     let kept : length written ≡ len = omega arith in
     let total : len ≡ length a + length b = omega (arith, c.in-Some.ensures) in
