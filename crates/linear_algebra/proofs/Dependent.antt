@@ -5,8 +5,9 @@ use Rattle.ring_core.specs.Ring.{RingOps, IsElem}
 use Rattle.ring_core.specs.Field.{IsField}
 use Rattle.ring_core.specs.Coeffs.{coeff, are_elems, first_values}
 use Rattle.ring_core.proofs.Carrier.{RingOn, Element, elements, same_element, mul_zero, neg_mul, mul_neg}
-use Rattle.ring_core.proofs.Coefficients.{coeff_past, elem_read, length-first_values, elems-first_values, coeff-first_values}
+use Rattle.ring_core.proofs.Coefficients.{coeff_past, elem_read, elems-first_values, coeff-first_values}
 use Rattle.ring_core.proofs.Degrees.{no_zero_divisors}
+use Rattle.ring_core.proofs.FirstValues.{length-first_values}
 use Rattle.linear_algebra.specs.Combines.{beside}
 use Rattle.linear_algebra.specs.Linear.{row_at, entry, is_row, are_rows, IsIndependent}
 use Rattle.linear_algebra.proofs.Sums.{combine, unit, total_same, total_zero, total_add, total_right, combine_same, unit_same, unit_combine, by_bool, same_or_other}
@@ -188,7 +189,7 @@ module _ {E : Type 0} (r : RingOps E) (inv : E → Option E) (field : IsField r 
         ci = elem_read r c field.ring.closed.zero_in elems
 
         shape : is_row r n c ≡ true
-        shape = and_from _ _ (eq-eqb _ n (length-first_values r n value)) elems
+        shape = and_from _ _ (eq-eqb _ n (length-first_values n value)) elems
 
         reads : (i : ℕ) → i < n → coeff r c i ≡ (s.by i).0
         reads i l =
