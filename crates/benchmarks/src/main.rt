@@ -1,18 +1,20 @@
-//! How long the kernel of a linear system takes, and how many products of the field it makes. With the
-//! word `linear` two large systems are measured; with no word small ones, whose products are compared
-//! with a bound.
+//! How long the kernel of a linear system takes, and how many products of the field it makes; and what
+//! the calls of fields take. With the word `linear` two large systems are measured, with the word `fields`
+//! the fields; with no word small systems, whose products are compared with a bound.
 #![tactic(auto)]
 
-ghost use Rattle.std.specs.Prelude.{◌≡◌, true};
+ghost use Rattle.std.specs.Prelude.{◌≡◌, ◌<◌, true};
 ghost use Rattle.linear_algebra.specs.Linear.{are_rows};
 
 mod counting;
+mod fields;
 mod random;
 
 use counting::counting;
-use field_tower::BaseField;
+use field_tower::{BaseField, multiply};
 use fq_linear::{Rows, kernel};
 use random::{Random, Shape, random_rows};
+use ring_core::lists::all_elems;
 use ring_core::{E, Field};
 use std::process::ExitCode;
 use std::time::{Duration, Instant};
@@ -63,6 +65,26 @@ fn measure<K: Field>(rt: &HostRuntime, field: &K, rows: &Rows<E<K>>) -> io::Resu
         products: counting_field.products(),
         time,
     })
+}
+
+/// The products of the field that a product of two residues makes, modulo a polynomial of degree `n`; all
+/// their coefficients are `c`.
+fn residue_products<K: Field>(rt: &HostRuntime, field: &K, c: E<K>, n: usize) -> io::Result<u64>
+    requires { 0 < n }
+{
+    let alloc = rt.alloc();
+    let counting_field = counting(field);
+    let modulus = vec![in alloc; c; n.saturating_add(1)]?;
+    let a = vec![in alloc; c; n]?;
+    let mut out = vec![in alloc; c; n]?;
+    if !all_elems(&counting_field, &modulus)
+        || !all_elems(&counting_field, &a)
+        || !all_elems(&counting_field, &out)
+    {
+        return Err(io::Error::from(io::ErrorKind::InvalidData));
+    }
+    multiply(&counting_field, &modulus, &a, &a, &mut out);
+    Ok(counting_field.products())
 }
 
 /// `a^8 + a^4 + a^3 + a + 1` over two elements: 256 residues.
@@ -124,11 +146,30 @@ fn small(rt: &HostRuntime) -> io::Result<bool> {
     Ok(true)
 }
 
+/// Compares the products of a product of residues with the bound `2 n^2`, and prints a line that is
+/// always the same where all stay within it.
+fn small_residues(rt: &HostRuntime) -> io::Result<bool> {
+    let Ok(field) = BaseField::make(rt.alloc(), 2, 8, &BYTES) else {
+        return Err(no_memory());
+    };
+    for n in 1..17 {
+        if residue_products(rt, &field, 3, n)? > 2 * (n * n) as u64 {
+            return Ok(false);
+        }
+    }
+    println!(rt; "residues: the count of products is within its bound")?;
+    Ok(true)
+}
+
 fn run(rt: &HostRuntime) -> io::Result<bool> {
     let words: Vec<String> = env::args(rt)?.skip(1).collect(rt.alloc())?;
     match words.first() {
-        None => small(rt),
+        None => Ok(small(rt)? && small_residues(rt)?),
         Some(word) if word.as_str() == "linear" => large(rt),
+        Some(word) if word.as_str() == "fields" => {
+            fields::print_all(rt, &BITS, &BYTES)?;
+            Ok(true)
+        }
         Some(_) => Ok(false),
     }
 }

@@ -1,0 +1,133 @@
+//! What products, Frobenius and acceptance cost in fields of the least and of the largest size.
+ghost use Rattle.std.specs.Prelude.{◌≡◌};
+ghost use Rattle.ring_core.specs.Ring.{IsElem};
+
+use super::no_memory;
+use field_tower::{BaseField, Code, Tower, WIDTH};
+use ring_core::lists::all_elems;
+use ring_core::{E, Field, FrobField};
+use std::io;
+use std::time::{Duration, Instant};
+
+/// How many calls are made of what takes less than a microsecond.
+const CALLS: u32 = 1_000_000;
+
+/// A top field of degree `WIDTH`, and what it took to make it.
+#[derive(Drop)]
+struct Made {
+    tower: Tower,
+    /// The call that made the base.
+    base: Duration,
+    /// The call that made the tower.
+    accepted: Duration,
+    /// The longest call that refused a modulus.
+    refused: Duration,
+}
+
+/// The last of `CALLS` products, each by `c`.
+fn products<K: Field>(k: &K, c: E<K>) -> E<K>
+    requires { IsElem (K.ops k.now) c }
+    ensures { IsElem (K.ops k.now) result }
+{
+    let mut x = c;
+    for _i in 0..CALLS {
+        x = k.mul(x, c);
+    }
+    x
+}
+
+/// The last of `CALLS` powers by the Frobenius, by each number of steps in turn.
+fn powers<K: FrobField>(k: &K, c: E<K>) -> E<K>
+    requires { IsElem (K.ops k.now) c }
+    ensures { IsElem (K.ops k.now) result }
+{
+    let mut x = c;
+    for i in 0..CALLS {
+        x = k.frob(x, i as usize);
+    }
+    x
+}
+
+/// `z^WIDTH + z^middle + c`, lowest coefficient first.
+fn trinomial(middle: usize, c: Code) -> [Code; WIDTH + 1] {
+    let mut list = [0; WIDTH + 1];
+    list[0] = c;
+    if let Some(place) = list.get_mut(middle) {
+        *place = 1;
+    }
+    list[WIDTH] = 1;
+    list
+}
+
+/// The top field modulo the first `z^WIDTH + z^middle + c` that is accepted, for codes `c` from 0 up, over
+/// the residues modulo 2 and this modulus of degree `s`.
+fn first_top(rt: &HostRuntime, s: u32, modulus: &[u32], middle: usize) -> io::Result<Made> {
+    let start = Instant::now(rt)?;
+    let made = BaseField::make(rt.alloc(), 2, s, modulus);
+    let base_time = start.elapsed(rt)?;
+    let Ok(mut base) = made else {
+        return Err(no_memory());
+    };
+    let mut refused = Duration::ZERO;
+    for c in 0..base.q() {
+        let list = trinomial(middle, c as Code);
+        if !all_elems(&base, &list) {
+            break;
+        }
+        let start = Instant::now(rt)?;
+        let made = Tower::make(rt.alloc(), base, WIDTH as u32, &list);
+        let time = start.elapsed(rt)?;
+        match made {
+            Ok(tower) => {
+                return Ok(Made {
+                    tower,
+                    base: base_time,
+                    accepted: time,
+                    refused,
+                });
+            }
+            Err(back) => {
+                refused = refused.max(time);
+                base = back.base;
+            }
+        }
+    }
+    Err(io::Error::from(io::ErrorKind::InvalidData))
+}
+
+/// Prints the times of the calls of a top field of degree `WIDTH` over the residues modulo 2 and this
+/// modulus of degree `s`.
+fn print_times(rt: &HostRuntime, s: u32, modulus: &[u32], middle: usize) -> io::Result<()> {
+    let made = first_top(rt, s, modulus, middle)?;
+    let k = &made.tower;
+    println!(rt; "{} elements, degree {WIDTH}", k.base().q())?;
+    println!(rt; "  BaseField::make {} us", made.base.as_micros())?;
+    println!(rt;
+        "  Tower::make accepted {} us, refused {} us",
+        made.accepted.as_micros(),
+        made.refused.as_micros()
+    )?;
+    let z = k.letter();
+    if !k.is_elem(z) {
+        return Err(io::Error::from(io::ErrorKind::InvalidData));
+    }
+    let start = Instant::now(rt)?;
+    let product = products(k, z);
+    let product_time = start.elapsed(rt)?;
+    let start = Instant::now(rt)?;
+    let power = powers(k, z);
+    let power_time = start.elapsed(rt)?;
+    println!(rt;
+        "  a product {} ns, a Frobenius power {} ns",
+        product_time.as_nanos() / CALLS as u128,
+        power_time.as_nanos() / CALLS as u128
+    )?;
+    // what was computed is used
+    println!(rt; "  equal: {}", k.equal(product, power))
+}
+
+/// Measures fields of degree `WIDTH` over 2 and over 256 elements.
+pub(super) fn print_all(rt: &HostRuntime, bits: &[u32], bytes: &[u32]) -> io::Result<()> {
+    print_times(rt, 1, bits, 3)?;
+    print_times(rt, 8, bytes, 1)
+}
