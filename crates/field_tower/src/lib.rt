@@ -23,6 +23,3 @@ pub use residue_field::{Code, TopElem, WIDTH};
 pub use residues::multiply;
 pub use size::CODES;
 pub use tower::{Tower, TowerRefused};
-
-#[cfg(test)]
-mod tests;
