@@ -12,3 +12,4 @@ pub mod FrobMap
 pub mod Kernels
 pub mod PairValues
 pub mod ConstantValues
+pub mod CodePairs

@@ -23,10 +23,11 @@ fn base_fields_and_refusals(rt: HostRuntime) {
     assert_eq!(rt; base_answer(&rt, 2, 9, &[1]), ("too large", 0, 0));
     assert_eq!(rt; base_answer(&rt, 2, 2, &[1, 1]), ("bad modulus", 0, 0));
     assert_eq!(rt; base_answer(&rt, 3, 2, &[1, 0, 5]), ("bad modulus", 0, 0));
-    // a^2 + 1 = (a + 1)^2 over F_2
+    // a^2 + 1 = (a + 1)^2 over F_2: 1 and a have the square 1, so a + 1 has the square 0
     assert_eq!(rt; base_answer(&rt, 2, 2, &[1, 0, 1]), ("pair", 3, 3));
-    // a^2 - 1 = (a - 1) (a + 1) over F_3, the numbers given unreduced
-    assert_eq!(rt; base_answer(&rt, 3, 2, &[5, 3, 4]), ("pair", 4, 5));
+    // a^2 - 1 = (a - 1) (a + 1) over F_3, the numbers given unreduced: a^3 = a, so a (a - 1) (a - 2) is
+    // 0; a (a - 1) = 1 - a has the code 1 + 2 * 3, and a - 2 = a + 1 the code 1 + 3
+    assert_eq!(rt; base_answer(&rt, 3, 2, &[5, 3, 4]), ("pair", 7, 4));
     assert_eq!(rt; base_answer(&rt, 3, 2, &[1, 0, 4]), ("field", 9, 3));
     // a^8 + a^4 + a^3 + a + 1 over F_2
     assert_eq!(rt;
