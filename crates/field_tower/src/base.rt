@@ -154,7 +154,9 @@ fn code_pair(
     let Some((a, b)) = find_pair(alloc, prime, prime.p, modulus)? else {
         return Ok(None);
     };
-    Ok(Some((number(p, n, a), number(p, n, b))))
+    let left = number(p, n, a);
+    let right = number(p, n, b);
+    Ok(Some((left, right)))
 }
 
 /// What `make` answers once the modulus is monic of degree `s` and reduced.

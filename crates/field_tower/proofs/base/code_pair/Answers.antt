@@ -19,8 +19,8 @@ returns-in_default c =
     no_code_pair p c.args.prime.now.listed modulus c.requires.monic
     (subst (λ o. MatchOption o (HasNoPair t) (λ pair. IsPair t pair.0 pair.1)) none c.in_ok-a.ensures)
 
-pub number-requires-clause-digits : goal.number-requires-clause-digits
-number-requires-clause-digits c =
+pub number-left-requires-clause-digits : goal.number-left-requires-clause-digits
+number-left-requires-clause-digits c =
     let p = c.args.prime.now.p in
     let modulus = c.args.modulus.now in
     let t = stored_ops (prime_ops p) modulus in
@@ -28,8 +28,8 @@ number-requires-clause-digits c =
     let pair = subst (λ o. MatchOption o (HasNoPair t) (λ pair. IsPair t pair.0 pair.1)) some c.in_ok-a.ensures in
     digits_small p c.args.prime.now.listed modulus c.requires.monic c.in-Some.a pair.left_in
 
-pub number-requires-2-clause-digits : goal.number-requires-2-clause-digits
-number-requires-2-clause-digits c =
+pub number-right-requires-clause-digits : goal.number-right-requires-clause-digits
+number-right-requires-clause-digits c =
     let p = c.args.prime.now.p in
     let modulus = c.args.modulus.now in
     let t = stored_ops (prime_ops p) modulus in
@@ -44,4 +44,4 @@ returns c =
     let t = stored_ops (prime_ops p) modulus in
     let some : c.in_ok-a.field-0 ≡ Some (c.in-Some.a, c.in-Some.b) = c.in-Some.is in
     let pair = subst (λ o. MatchOption o (HasNoPair t) (λ pair. IsPair t pair.0 pair.1)) some c.in_ok-a.ensures in
-    code_pair_made p c.args.prime.now.listed modulus c.requires.monic c.in-Some.a c.in-Some.b _ _ pair c.number.ensures c.number-2.ensures
+    code_pair_made p c.args.prime.now.listed modulus c.requires.monic c.in-Some.a c.in-Some.b _ _ pair c.number-left.ensures c.number-right.ensures
