@@ -1,21 +1,16 @@
 -- Reading the tables of a base field, and the data from which one is made.
 use native.Mathlib.Nat.{pow-le-pow_right, pow-le-pow_left}
-use Rattle.std.proofs.Common.{◌≡◌, inl, inr, ℕ, suc, ◌+◌, ◌-◌, ◌*◌, ◌%◌, ◌^◌, ◌<◌, ◌≤◌, true, List, [], ◌∷◌, length, map, slice_index, get_or, sym, refl, ap, subst, ◌∙◌, arith, lt-ltb, mod-lt}
+use Rattle.std.proofs.Common.{◌≡◌, inl, inr, ℕ, ◌+◌, ◌-◌, ◌*◌, ◌%◌, ◌^◌, ◌<◌, ◌≤◌, true, List, [], ◌∷◌, length, map, slice_index, get_or, sym, refl, ap, subst, ◌∙◌, arith, lt-ltb, mod-lt}
 use Rattle.std.proofs.lemmas.Bool.{and_from, cases_lt}
 use Rattle.std.proofs.lemmas.Nat.{mul-add-lt}
 use Rattle.std.proofs.lemmas.List.{get_or_read}
-use Rattle.ring_core.specs.Ring.{IsElem}
 use Rattle.ring_core.specs.Coeffs.{coeff, are_elems}
-use Rattle.finite_ring.specs.Finite.{HasNoPair}
 use Rattle.residue_field.specs.declared.TheConstants.{WIDTH}
 use Rattle.field_tower.specs.declared.size.TheConstants.{CODES}
 use Rattle.residue_field.specs.Tables.{IsRow, IsTable}
 use Rattle.residue_field.specs.Prime.{is_listed, prime_ops}
-use Rattle.residue_field.specs.Base.{base_ops}
 use Rattle.residue_field.proofs.Listed.{listed_large}
 use Rattle.field_tower.specs.Places.{IsModulus}
-use Rattle.field_tower.specs.Pairs.{IsPair, HasNoZero, IsZeroAt}
-use Rattle.field_tower.proofs.BaseValues.{base-zero, code_in, code_below}
 
 pub table_fits : (q : ℕ) (op : ℕ → ℕ → ℕ) (table : List ℕ) (a b : ℕ) → IsTable q op table → a < q → b < q → a * q + b < length table
 table_fits q op table a b t l m = subst (λ n. a * q + b < n) (sym t.0) (mul-add-lt a q b q l m)
@@ -60,27 +55,3 @@ modulus_of p s modulus listed positive small len elems top =
       elems = elems;
       monic = ap (coeff (prime_ops p) modulus) place ∙ top;
     }
-
-module _ (p n : ℕ) (modulus : List ℕ) (q : ℕ) (count : q ≡ p ^ suc n) (table : List ℕ) (t : IsTable q (base_ops p n modulus).mul table) where
-  in_range : (a : ℕ) → IsElem (base_ops p n modulus) a → a < q
-  in_range a e = subst (λ k. a < k) (sym count) (code_below p n modulus a e)
-
-  -- a zero of the table is a pair
-  pub zero_pair : (a b : ℕ) → IsZeroAt q table a b → IsPair (base_ops p n modulus) a b
-  zero_pair a b z =
-      let zero = base-zero p n modulus in
-      record {
-        left_in = code_in p n modulus a (subst (λ k. a < k) count z.left_below);
-        right_in = code_in p n modulus b (subst (λ k. b < k) count z.right_below);
-        left_nonzero = λ e. z.left_nonzero (e ∙ zero);
-        right_nonzero = λ e. z.right_nonzero (e ∙ zero);
-        product_zero = sym (t.1 a b z.left_below z.right_below) ∙ z.entry_zero ∙ sym zero;
-      }
-
-  -- a table without zeros has no pair
-  pub no_pair : HasNoZero q table → HasNoPair (base_ops p n modulus)
-  no_pair none a b a_in b_in na nb e =
-      let zero = base-zero p n modulus in
-      let l = in_range a a_in in
-      let m = in_range b b_in in
-      none a b l m (t.1 a b l m ∙ e ∙ zero) (λ d. na (d ∙ sym zero)) (λ d. nb (d ∙ sym zero))

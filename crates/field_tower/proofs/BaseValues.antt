@@ -1,6 +1,6 @@
 -- The elements of a base field as numbers.
 use native.Mathlib.Nat.{pow-le-pow_right, pow-zero}
-use Rattle.std.proofs.Common.{◌≡◌, ◌≢◌, ℕ, suc, ◌+◌, ◌-◌, ◌*◌, ◌^◌, ◌<◌, ◌≤◌, nat_eq, nat_lt, List, Some, None, sym, refl, ap, ◌∙◌, arith, lt-ltb, ltb-true, eq-eqb, ne_eqb, pow-suc}
+use Rattle.std.proofs.Common.{◌≡◌, ◌≢◌, ℕ, suc, ◌+◌, ◌-◌, ◌*◌, ◌^◌, ◌<◌, ◌≤◌, nat_eq, nat_lt, List, Some, None, sym, refl, ap, ◌∙◌, arith, ltb-true, eq-eqb, ne_eqb, pow-suc}
 use Rattle.std.proofs.lemmas.Bool.{cond-true, cond-false}
 use Rattle.ring_core.specs.Ring.{IsElem}
 use Rattle.ring_core.specs.Powers.{power_of}
@@ -21,14 +21,6 @@ module _ (p n : ℕ) (modulus : List ℕ) where
   pub base-same : (a b : ℕ) → (base_ops p n modulus).same a b ≡ nat_eq a b
   unfolding base_ops
   base-same a b = refl
-
-  pub code_in : (a : ℕ) → a < p ^ suc n → IsElem (base_ops p n modulus) a
-  unfolding base_ops
-  code_in a l = lt-ltb a (p ^ suc n) l
-
-  pub code_below : (a : ℕ) → IsElem (base_ops p n modulus) a → a < p ^ suc n
-  unfolding base_ops
-  code_below a e = ltb-true a (p ^ suc n) e
 
 pub elem-is : (k : Base) (a : ℕ) → (ops_of k).is_elem a ≡ nat_lt a (size_of k)
 unfolding base_ops

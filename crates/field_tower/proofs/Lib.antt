@@ -1,6 +1,7 @@
 pub mod Rows
 pub mod Writes
 pub mod Stored
+pub mod StoredValues
 pub mod PowerSteps
 pub mod Letter
 pub mod CodeDigits
@@ -10,3 +11,5 @@ pub mod TopValues
 pub mod FrobMap
 pub mod Kernels
 pub mod PairValues
+pub mod ConstantValues
+pub mod CodePairs

@@ -1,5 +1,5 @@
 -- The elements of a top field as stored residues.
-use Rattle.std.proofs.Common.{◌≡◌, ◌≢◌, ℕ, suc, ◌+◌, ◌-◌, ◌^◌, ◌≤◌, Bool, true, false, true≢false, List, length, Some, None, sym, refl, ap, ◌∙◌, arith}
+use Rattle.std.proofs.Common.{◌≡◌, ℕ, suc, ◌+◌, ◌-◌, ◌^◌, ◌≤◌, true, false, List, length, Some, None, sym, refl, ap, ◌∙◌, arith}
 use Rattle.std.proofs.lemmas.Bool.{cond-true, cond-false}
 use Rattle.ring_core.specs.Ring.{IsElem}
 use Rattle.ring_core.specs.Coeffs.{coeff, are_elems, same_lists}
@@ -12,8 +12,8 @@ use Rattle.residue_field.specs.Base.{Base, ops_of, size_of}
 use Rattle.residue_field.specs.Top.{Top, top_ops, ops_of_top, inverse_of_top, embed_of, from_coords, letter_of}
 use Rattle.residue_field.proofs.BaseLaws.{base_ring}
 use Rattle.residue_field.proofs.TopPlaces.{elems_of}
-use Rattle.residue_field.proofs.TopLaws.{IsTopShape, top_shape_ring, top_shape_of}
-use Rattle.field_tower.specs.Places.{IsModulus, IsStored, stored, stored_ops}
+use Rattle.residue_field.proofs.TopLaws.{IsTopShape, top_shape_of}
+use Rattle.field_tower.specs.Places.{IsModulus, stored, stored_ops}
 use Rattle.field_tower.proofs.Stored.{none_is}
 
 -- What the operations of a top field are, as code computes them.
@@ -104,33 +104,3 @@ pub letter-inside : (s t : Top) → s ≡ t → (w : List ℕ) → w ≡ s.modul
 letter-inside s t e w is =
     ap (λ u. residue_letter (ops_of s.base) (length u - 2) (coeff (ops_of s.base) u) (top_places (ops_of s.base) (length u - 2))) is
     ∙ letter-top s.base s.n s.modulus s.is_top.3 ∙ letter-of s ∙ ap letter_of e
-
--- What code finds of a residue, before it is known whether the residues are a field.
-module _ (base : Base) (n : ℕ) (modulus : List ℕ) (len : length modulus ≡ n + 1) (m : IsModulus (ops_of base) modulus) where
-  shape_here : IsTopShape base (n - 1) modulus
-  shape_here = shape_from base n modulus len m
-
-  pub residue_elems : (a : TopElem) → IsStored (ops_of base) (n - 1) a → are_elems (ops_of base) a.0 ≡ true
-  residue_elems a e = elems_of (ops_of base) (base_ring base) (n - 1) shape_here.fits a e
-
-  pub elem_of : (a : TopElem) → IsStored (ops_of base) (n - 1) a → IsElem (top_ops base (n - 1) modulus) a
-  unfolding top_ops
-  elem_of a e = e
-
-  pub stored_of : (a : TopElem) → IsElem (top_ops base (n - 1) modulus) a → IsStored (ops_of base) (n - 1) a
-  unfolding top_ops
-  stored_of a e = e
-
-  pub zero_if : (a : TopElem) (b : Bool) → IsStored (ops_of base) (n - 1) a → b ≡ (top_places (ops_of base) (n - 1)).same a (stored (ops_of base) (n - 1) (λ i. (ops_of base).zero))
-      → b ≡ true → a ≡ (top_ops base (n - 1) modulus).zero
-  unfolding top_ops stored
-  zero_if a b e is answer =
-      let ring = top_shape_ring base (n - 1) modulus shape_here in
-      ring.equal.same_eq a _ (elem_of a e) ring.closed.zero_in (sym is ∙ answer)
-
-  pub nonzero_if : (a : TopElem) (b : Bool) → IsStored (ops_of base) (n - 1) a → b ≡ (top_places (ops_of base) (n - 1)).same a (stored (ops_of base) (n - 1) (λ i. (ops_of base).zero))
-      → b ≡ false → a ≢ (top_ops base (n - 1) modulus).zero
-  unfolding top_ops stored
-  nonzero_if a b e is answer same =
-      let ring = top_shape_ring base (n - 1) modulus shape_here in
-      true≢false (sym (ring.equal.same_refl a (elem_of a e)) ∙ ap ((top_ops base (n - 1) modulus).same a) same ∙ sym is ∙ answer)

@@ -6,57 +6,54 @@ use Rattle.ring_core.specs.Powers.{power_of}
 use Rattle.linear_algebra.specs.Linear.{entry}
 use Rattle.residue_field.specs.declared.TopElem.{TopElem}
 use Rattle.residue_field.specs.Residue.{residue_unit}
-use Rattle.residue_field.specs.Base.{Base, ops_of, size_of}
 use Rattle.residue_field.specs.TopElem.{top_places}
-use Rattle.residue_field.specs.Top.{top_ops}
-use Rattle.field_tower.specs.Places.{stored}
+use Rattle.field_tower.specs.Places.{stored, stored_ops}
 
 -- The power `q` of `x`, less `x` where `less` is true.
 abbrev pub image_of : {E : Type 0} → RingOps E → ℕ → Bool → E → E
 image_of r q false x = power_of r x q
 image_of r q true x = r.add (power_of r x q) (r.neg x)
 
--- That of a residue, where `q` is the number of constants.
-abbrev pub top_image : Base → ℕ → List ℕ → Bool → TopElem → TopElem
-top_image base n modulus less x = image_of (top_ops base (n - 1) modulus) (size_of base) less x
-
--- The residue of the power `j` of the letter, for `j` below `n`.
-abbrev pub letter_power : Base → ℕ → ℕ → TopElem
-letter_power base n j = residue_unit (ops_of base) (top_places (ops_of base) (n - 1)) j
+-- The residue of the power `j` of the letter modulo a polynomial of degree `n`, for `j` below `n`.
+abbrev pub letter_power : RingOps ℕ → ℕ → ℕ → TopElem
+letter_power r n j = residue_unit r (top_places r (n - 1)) j
 
 -- The coefficients of the image of that residue.
-abbrev pub image_row : Base → ℕ → List ℕ → Bool → ℕ → List ℕ
-image_row base n modulus less j = first_values n (coeff (ops_of base) (top_image base n modulus less (letter_power base n j)).0)
+abbrev pub image_row : RingOps ℕ → ℕ → List ℕ → Bool → ℕ → List ℕ
+image_row r q modulus less j =
+    let n = length modulus - 1 in
+    first_values n (coeff r (image_of (stored_ops r modulus) q less (letter_power r n j)).0)
 
 -- The coefficients from the place `low` on are zero.
-abbrev pub IsLow : Base → ℕ → TopElem → Type 0
-IsLow base low x = (i : ℕ) → low ≤ i → coeff (ops_of base) x.0 i ≡ (ops_of base).zero
+abbrev pub IsLow : RingOps ℕ → ℕ → TopElem → Type 0
+IsLow r low x = (i : ℕ) → low ≤ i → coeff r x.0 i ≡ r.zero
 
--- The residue whose coefficients are row `i`.
-abbrev pub row_residue : Base → ℕ → List (List ℕ) → ℕ → TopElem
-row_residue base n rows i = stored (ops_of base) (n - 1) (entry (ops_of base) rows i)
+-- The residue whose `n` coefficients are row `i`.
+abbrev pub row_residue : RingOps ℕ → ℕ → List (List ℕ) → ℕ → TopElem
+row_residue r n rows i = stored r (n - 1) (entry r rows i)
 
 -- All rows are zero from the place `low` on.
-abbrev pub AreLow : Base → ℕ → ℕ → List (List ℕ) → Type 0
-AreLow base n low rows = (i : ℕ) → i < length rows → IsLow base low (row_residue base n rows i)
+abbrev pub AreLow : RingOps ℕ → ℕ → ℕ → List (List ℕ) → Type 0
+AreLow r n low rows = (i : ℕ) → i < length rows → IsLow r low (row_residue r n rows i)
 
 -- `x` is the residue of a row that is not zero from the place `low` on.
-pub record IsAbove (base : Base) (n low : ℕ) (rows : List (List ℕ)) (x : TopElem) : Type 0 where
+pub record IsAbove (r : RingOps ℕ) (n low : ℕ) (rows : List (List ℕ)) (x : TopElem) : Type 0 where
   pub row : ℕ
   pub within : row < length rows
-  pub is : x ≡ row_residue base n rows row
-  pub above : IsLow base low x → ⊥
+  pub is : x ≡ row_residue r n rows row
+  pub above : IsLow r low x → ⊥
 
 -- Only residues that are zero from the place `low` on have the image zero.
-abbrev pub HasLowKernel : Base → ℕ → List ℕ → Bool → ℕ → Type 0
-HasLowKernel base n modulus less low =
-    (x : TopElem) → IsElem (top_ops base (n - 1) modulus) x → top_image base n modulus less x ≡ (top_ops base (n - 1) modulus).zero → IsLow base low x
+abbrev pub HasLowKernel : RingOps ℕ → ℕ → List ℕ → Bool → ℕ → Type 0
+HasLowKernel r q modulus less low =
+    let t = stored_ops r modulus in
+    (x : TopElem) → IsElem t x → image_of t q less x ≡ t.zero → IsLow r low x
 
 -- `x` has the image zero, and isn't zero from the place `low` on.
-pub record IsInKernel (base : Base) (n : ℕ) (modulus : List ℕ) (less : Bool) (low : ℕ) (x : TopElem) : Type 0 where
-  pub elem : IsElem (top_ops base (n - 1) modulus) x
-  pub image : top_image base n modulus less x ≡ (top_ops base (n - 1) modulus).zero
-  pub above : IsLow base low x → ⊥
+pub record IsInKernel (r : RingOps ℕ) (q : ℕ) (modulus : List ℕ) (less : Bool) (low : ℕ) (x : TopElem) : Type 0 where
+  pub elem : IsElem (stored_ops r modulus) x
+  pub image : image_of (stored_ops r modulus) q less x ≡ (stored_ops r modulus).zero
+  pub above : IsLow r low x → ⊥
 
 -- `x` is the product `v`, which isn't zero.
 pub record IsNonzero {E : Type 0} (r : RingOps E) (v x : E) : Type 0 where

@@ -1,4 +1,5 @@
 pub mod Places
+pub mod Constants
 pub mod Pairs
 pub mod MakeBase
 pub mod MakeTop

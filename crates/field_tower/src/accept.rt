@@ -1,4 +1,4 @@
-//! Acceptance of residues as a field, by two linear maps over the base: the power by the number of
+//! Acceptance of residues as a field, by two linear maps over the constants: the power by the number of
 //! constants, and that power less the element.
 
 ghost use Rattle.std.specs.Prelude.{◌≡◌, ℕ, ◌+◌, ◌-◌, ◌<◌, ◌≤◌, ◌↔◌, IsTrue, MatchOption, IfOk, length, true};
@@ -7,13 +7,11 @@ ghost use Rattle.ring_core.specs.Coeffs.{are_elems, first_values};
 ghost use Rattle.linear_algebra.specs.Linear.{are_rows};
 ghost use Rattle.finite_ring.specs.Finite.{HasNoPair};
 ghost use Rattle.residue_field.specs.declared.TheConstants.{WIDTH};
-ghost use Rattle.residue_field.specs.Base.{ops_of};
-ghost use Rattle.residue_field.specs.Top.{top_ops};
-ghost use Rattle.field_tower.specs.Places.{IsModulus};
+ghost use Rattle.field_tower.specs.Constants.{IsFieldOfCodes};
+ghost use Rattle.field_tower.specs.Places.{IsModulus, stored_ops};
 ghost use Rattle.field_tower.specs.Pairs.{IsPair};
-ghost use Rattle.field_tower.specs.Kernel.{top_image, letter_power, image_row, IsLow, row_residue, AreLow, IsAbove, HasLowKernel, IsInKernel};
+ghost use Rattle.field_tower.specs.Kernel.{image_of, letter_power, image_row, IsLow, row_residue, AreLow, IsAbove, HasLowKernel, IsInKernel};
 
-use super::base::BaseField;
 use super::pair::{factor_pair, power_pair};
 use super::places;
 use fq_linear::{Rows, kernel};
@@ -22,77 +20,90 @@ use ring_core::lists::coeff_at;
 use ring_core::{Field, NoMemory};
 use std::alloc::Global;
 
-/// The residue of the power `j` of the letter.
-pub(crate) fn unit(base: &BaseField, n: usize, j: usize) -> TopElem
+/// The residue of the power `j` of the letter, modulo a polynomial of degree `n`.
+pub(crate) fn unit<F: Field<Elem = Code>>(field: &F, n: usize, j: usize) -> TopElem
     requires place { j < n }
     requires room { n ≤ WIDTH }
-    ensures { result ≡ letter_power base.now n j }
+    ensures { result ≡ letter_power (F.ops field.now) n j }
 {
-    let mut list = places::zeros(base);
-    list[j] = base.one();
+    let mut list = places::zeros(field);
+    list[j] = field.one();
     TopElem(list)
 }
 
-/// The power of `x` by the number of constants, less `x` where `less` is true.
-fn image(base: &BaseField, n: usize, modulus: &[Code], less: bool, x: TopElem) -> TopElem
-    requires monic { IsModulus (ops_of base.now) modulus.now }
-    requires degree { length modulus.now ≡ n + 1 }
-    requires elem { IsElem (top_ops base.now (n - 1) modulus.now) x }
-    ensures value { result ≡ top_image base.now n modulus.now less x }
+/// The power of `x` by `q`, less `x` where `less` is true.
+fn image<F: Field<Elem = Code>>(
+    field: &F,
+    q: u32,
+    modulus: &[Code],
+    less: bool,
+    x: TopElem,
+) -> TopElem
+    requires monic { IsModulus (F.ops field.now) modulus.now }
+    requires constants { IsFieldOfCodes (F.ops field.now) q }
+    requires elem { IsElem (stored_ops (F.ops field.now) modulus.now) x }
+    ensures value { result ≡ image_of (stored_ops (F.ops field.now) modulus.now) q less x }
     ensures width { length result.0 ≡ WIDTH }
 {
-    let power = places::power(base, modulus, x, base.q());
+    let power = places::power(field, modulus, x, q);
     if less {
-        places::add(base, n, power, places::neg(base, n, x))
+        let n = modulus.len() - 1;
+        places::add(field, n, power, places::neg(field, n, x))
     } else {
         power
     }
 }
 
 /// The coefficients of the images of the powers of the letter, a row for each.
-fn image_rows(
+fn image_rows<F: Field<Elem = Code>>(
     alloc: Global,
-    base: &BaseField,
-    n: usize,
+    field: &F,
+    q: u32,
     modulus: &[Code],
     less: bool,
 ) -> Result<Rows<Code>, NoMemory>
-    requires monic { IsModulus (ops_of base.now) modulus.now }
-    requires degree { length modulus.now ≡ n + 1 }
-    ensures width { IfOk result (λ v. v.width ≡ n) }
-    ensures rows { IfOk result (λ v. v.rows ≡ first_values n (image_row base.now n modulus.now less)) }
+    requires monic { IsModulus (F.ops field.now) modulus.now }
+    requires constants { IsFieldOfCodes (F.ops field.now) q }
+    ensures width { IfOk result (λ v. v.width ≡ length modulus.now - 1) }
+    ensures rows { IfOk result (λ v. v.rows ≡ first_values (length modulus.now - 1) (image_row (F.ops field.now) q modulus.now less)) }
 {
+    let n = modulus.len() - 1;
     let mut rows = Rows::new(alloc, n);
     for j in 0..n {
-        let image = image(base, n, modulus, less, unit(base, n, j));
+        let image = image(field, q, modulus, less, unit(field, n, j));
         rows.push(&image.0[..n])?;
     }
     Ok(rows)
 }
 
 /// Whether the coefficients of `x` from the place `low` on are zero.
-fn is_low(base: &BaseField, low: usize, x: TopElem) -> bool
-    requires { are_elems (ops_of base.now) x.0 ≡ true }
-    ensures { IsTrue result ↔ IsLow base.now low x }
+fn is_low<F: Field<Elem = Code>>(field: &F, low: usize, x: TopElem) -> bool
+    requires { are_elems (F.ops field.now) x.0 ≡ true }
+    ensures { IsTrue result ↔ IsLow (F.ops field.now) low x }
 {
     for i in low..WIDTH {
-        if !base.equal(coeff_at(base, &x.0, i), base.zero()) {
+        if !field.equal(coeff_at(field, &x.0, i), field.zero()) {
             return false;
         }
     }
     true
 }
 
-/// The residue whose coefficients are row `i`.
-fn residue_of_row(base: &BaseField, n: usize, rows: &Rows<Code>, i: usize) -> TopElem
+/// The residue whose `n` coefficients are row `i`.
+fn residue_of_row<F: Field<Elem = Code>>(
+    field: &F,
+    n: usize,
+    rows: &Rows<Code>,
+    i: usize,
+) -> TopElem
     requires positive { 0 < n }
     requires room { n ≤ WIDTH }
     requires width { rows.now.width ≡ n }
-    requires rows { are_rows (ops_of base.now) n rows.now.rows ≡ true }
+    requires rows { are_rows (F.ops field.now) n rows.now.rows ≡ true }
     requires row { i < length rows.now.rows }
-    ensures { result ≡ row_residue base.now n rows.now.rows i }
+    ensures { result ≡ row_residue (F.ops field.now) n rows.now.rows i }
 {
-    let mut list = places::zeros(base);
+    let mut list = places::zeros(field);
     for j in 0..n {
         list[j] = rows.at(i, j);
     }
@@ -100,16 +111,21 @@ fn residue_of_row(base: &BaseField, n: usize, rows: &Rows<Code>, i: usize) -> To
 }
 
 /// The residue of the first row that is not zero from the place `low` on, None where there is none.
-fn find_above(base: &BaseField, n: usize, low: usize, rows: &Rows<Code>) -> Option<TopElem>
+fn find_above<F: Field<Elem = Code>>(
+    field: &F,
+    n: usize,
+    low: usize,
+    rows: &Rows<Code>,
+) -> Option<TopElem>
     requires positive { 0 < n }
     requires room { n ≤ WIDTH }
     requires width { rows.now.width ≡ n }
-    requires rows { are_rows (ops_of base.now) n rows.now.rows ≡ true }
-    ensures { MatchOption result (AreLow base.now n low rows.now.rows) (IsAbove base.now n low rows.now.rows) }
+    requires rows { are_rows (F.ops field.now) n rows.now.rows ≡ true }
+    ensures { MatchOption result (AreLow (F.ops field.now) n low rows.now.rows) (IsAbove (F.ops field.now) n low rows.now.rows) }
 {
     for i in 0..rows.len() {
-        let x = residue_of_row(base, n, rows, i);
-        if !is_low(base, low, x) {
+        let x = residue_of_row(field, n, rows, i);
+        if !is_low(field, low, x) {
             return Some(x);
         }
     }
@@ -117,41 +133,43 @@ fn find_above(base: &BaseField, n: usize, low: usize, rows: &Rows<Code>) -> Opti
 }
 
 /// A residue with the image zero that is not zero from the place `low` on, None where there is none.
-fn find_in_kernel(
+fn find_in_kernel<F: Field<Elem = Code>>(
     alloc: Global,
-    base: &BaseField,
-    n: usize,
+    field: &F,
+    q: u32,
     modulus: &[Code],
     less: bool,
     low: usize,
 ) -> Result<Option<TopElem>, NoMemory>
-    requires monic { IsModulus (ops_of base.now) modulus.now }
-    requires degree { length modulus.now ≡ n + 1 }
-    ensures { IfOk result (λ o. MatchOption o (HasLowKernel base.now n modulus.now less low) (IsInKernel base.now n modulus.now less low)) }
+    requires monic { IsModulus (F.ops field.now) modulus.now }
+    requires constants { IsFieldOfCodes (F.ops field.now) q }
+    ensures { let r = F.ops field.now in
+        IfOk result (λ o. MatchOption o (HasLowKernel r q modulus.now less low) (IsInKernel r q modulus.now less low)) }
 {
-    let rows = image_rows(alloc, base, n, modulus, less)?;
-    let relations = kernel(alloc, base, &rows)?;
-    Ok(find_above(base, n, low, &relations))
+    let rows = image_rows(alloc, field, q, modulus, less)?;
+    let relations = kernel(alloc, field, &rows)?;
+    Ok(find_above(field, modulus.len() - 1, low, &relations))
 }
 
-/// Two nonzero residues modulo `modulus` of degree `n` whose product is zero, None where there are
-/// none. Where only zero has the power `q` zero, for `q` constants, and only constants have the power
-/// `q` that they are, there are none.
-pub(crate) fn find_pair(
+/// Two nonzero residues modulo `modulus` whose product is zero, over a field of `q` constants; None
+/// where there are none. Where only zero has the power `q` zero, and only constants have the power `q`
+/// that they are, there are none.
+pub(crate) fn find_pair<F: Field<Elem = Code>>(
     alloc: Global,
-    base: &BaseField,
-    n: usize,
+    field: &F,
+    q: u32,
     modulus: &[Code],
 ) -> Result<Option<(TopElem, TopElem)>, NoMemory>
-    requires monic { IsModulus (ops_of base.now) modulus.now }
-    requires degree { length modulus.now ≡ n + 1 }
-    ensures { IfOk result (λ o. MatchOption o (HasNoPair (top_ops base.now (n - 1) modulus.now)) (λ pair. IsPair (top_ops base.now (n - 1) modulus.now) pair.0 pair.1)) }
+    requires monic { IsModulus (F.ops field.now) modulus.now }
+    requires constants { IsFieldOfCodes (F.ops field.now) q }
+    ensures { let t = stored_ops (F.ops field.now) modulus.now in
+        IfOk result (λ o. MatchOption o (HasNoPair t) (λ pair. IsPair t pair.0 pair.1)) }
 {
-    if let Some(x) = find_in_kernel(alloc, base, n, modulus, false, 0)? {
-        return Ok(Some(power_pair(base, n, modulus, x)));
+    if let Some(x) = find_in_kernel(alloc, field, q, modulus, false, 0)? {
+        return Ok(Some(power_pair(field, q, modulus, x)));
     }
-    if let Some(x) = find_in_kernel(alloc, base, n, modulus, true, 1)? {
-        return Ok(Some(factor_pair(base, n, modulus, x)));
+    if let Some(x) = find_in_kernel(alloc, field, q, modulus, true, 1)? {
+        return Ok(Some(factor_pair(field, q, modulus, x)));
     }
     Ok(None)
 }

@@ -1,18 +1,23 @@
-ghost use Rattle.std.specs.Prelude.{◌≡◌, ◌-◌, ◌+◌, ◌<◌, ◌≤◌, ◌^◌, IfOk, MatchResult, length, slice_index, true};
+ghost use Rattle.std.specs.Prelude.{◌≡◌, ◌-◌, ◌+◌, ◌<◌, ◌≤◌, ◌^◌, IfOk, MatchOption, MatchResult, length, slice_index, true};
 ghost use Rattle.ring_core.specs.Ring.{IsElem};
 ghost use Rattle.ring_core.specs.Coeffs.{are_elems};
 ghost use Rattle.ring_core.specs.Powers.{power_of};
+ghost use Rattle.finite_ring.specs.Finite.{HasNoPair};
 ghost use Rattle.residue_field.specs.Tables.{IsRow, IsTable};
 ghost use Rattle.residue_field.specs.Prime.{is_listed, prime_ops};
 ghost use Rattle.residue_field.specs.Base.{Base, IsBase, base_ops, base_code, ops_of, size_of, inverse_of};
 ghost use Rattle.residue_field.proofs.BaseLaws.{base_field};
 ghost use Rattle.field_tower.specs.declared.size.TheConstants.{CODES};
+ghost use Rattle.field_tower.specs.Places.{IsModulus};
+ghost use Rattle.field_tower.specs.Pairs.{IsPair};
 ghost use Rattle.field_tower.specs.MakeBase.{MakesBase, IsBaseOf, IsFaultOf, reduced as reduced_list};
 
+use super::accept::find_pair;
+use super::codes::number;
 use super::fault::BaseFault;
 use super::prime::Prime;
 use super::size::{is_listed, size};
-use super::tables::{find_zero, negative_row, product_table, sum_table};
+use super::tables::{negative_row, product_table, sum_table};
 use residue_field::Code;
 use ring_core::{Field, NoMemory};
 use std::alloc::Global;
@@ -63,7 +68,8 @@ impl BaseField {
     /// coefficient first. The refusals come in this order: `TooLarge` where `p` is no listed prime, `s`
     /// is 0 or `p^s` is more than `CODES`; `BadModulus` where the list hasn't `s + 1` members or the
     /// last isn't 1 modulo `p`; `ZeroDivisors` where two nonzero codes multiply to zero, with such a
-    /// pair; and `NoMemory` where memory is refused.
+    /// pair; and `NoMemory` where memory is refused. No pairs are tried: the answer is found by two
+    /// linear systems of `s` rows over the numbers modulo `p`.
     pub fn make(alloc: Global, p: u32, s: u32, modulus: &[u32]) -> Result<BaseField, BaseFault>
         ensures { MakesBase p s modulus.now result }
     {
@@ -132,6 +138,27 @@ impl BaseField {
     }
 }
 
+/// Two nonzero codes whose product is zero, None where there are none.
+fn code_pair(
+    alloc: Global,
+    prime: &Prime,
+    modulus: &[Code],
+) -> Result<Option<(Code, Code)>, NoMemory>
+    requires monic { IsModulus (prime_ops prime.now.p) modulus.now }
+    requires small { prime.now.p ^ (length modulus.now - 1) ≤ CODES }
+    ensures { let k = base_ops prime.now.p (length modulus.now - 2) modulus.now in
+        IfOk result (λ o. MatchOption o (HasNoPair k) (λ pair. IsPair k pair.0 pair.1)) }
+{
+    let p = prime.p as usize;
+    let n = modulus.len() - 1;
+    let Some((a, b)) = find_pair(alloc, prime, prime.p, modulus)? else {
+        return Ok(None);
+    };
+    let left = number(p, n, a);
+    let right = number(p, n, b);
+    Ok(Some((left, right)))
+}
+
 /// What `make` answers once the modulus is monic of degree `s` and reduced.
 fn make_reduced(
     alloc: Global,
@@ -148,12 +175,14 @@ fn make_reduced(
     requires monic { slice_index modulus.items s ≡ 1 }
     ensures { MatchResult result (IsBaseOf prime.p s modulus.items) (IsFaultOf prime.p s modulus.items) }
 {
+    match code_pair(alloc, &prime, &modulus) {
+        Ok(None) => (),
+        Ok(Some((a, b))) => return Err(BaseFault::ZeroDivisors { a, b }),
+        Err(NoMemory) => return Err(BaseFault::NoMemory),
+    }
     let Ok(products) = product_table(alloc, &prime, &modulus, q) else {
         return Err(BaseFault::NoMemory);
     };
-    if let Some((a, b)) = find_zero(q, &products) {
-        return Err(BaseFault::ZeroDivisors { a, b });
-    }
     let Ok(sums) = sum_table(alloc, &prime, &modulus, q) else {
         return Err(BaseFault::NoMemory);
     };

@@ -1,10 +1,9 @@
-ghost use Rattle.std.specs.Prelude.{◌≡◌, ◌-◌, ◌+◌, ◌*◌, ◌<◌, ◌≤◌, ◌^◌, IfOk, MatchOption, length};
+ghost use Rattle.std.specs.Prelude.{◌≡◌, ◌-◌, ◌+◌, ◌*◌, ◌<◌, ◌≤◌, ◌^◌, IfOk, length};
 ghost use Rattle.residue_field.specs.Tables.{IsRow, IsTable};
 ghost use Rattle.residue_field.specs.Prime.{prime_ops};
 ghost use Rattle.residue_field.specs.Base.{base_ops};
 ghost use Rattle.field_tower.specs.declared.size.TheConstants.{CODES};
 ghost use Rattle.field_tower.specs.Places.{IsModulus};
-ghost use Rattle.field_tower.specs.Pairs.{HasNoZero, IsZeroAt};
 
 use super::codes::{digits, number};
 use super::places;
@@ -114,21 +113,4 @@ pub(crate) fn negative_row(
         row.push(code_negative(prime, modulus, a))?;
     }
     Ok(row)
-}
-
-/// Two codes, not 0, with a zero in the table of the products of the codes below `q`; None where there
-/// are none.
-pub(crate) fn find_zero(q: usize, products: &[Code]) -> Option<(Code, Code)>
-    requires whole { length products.now ≡ q * q }
-    requires small { q ≤ CODES }
-    ensures { MatchOption result (HasNoZero q products.now) (λ pair. IsZeroAt q products.now pair.0 pair.1) }
-{
-    for m in 0..q * q {
-        let a = m / q;
-        let b = m % q;
-        if a != 0 && b != 0 && products[m] == 0 {
-            return Some((a as Code, b as Code));
-        }
-    }
-    None
 }

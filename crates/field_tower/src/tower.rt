@@ -1,10 +1,13 @@
-ghost use Rattle.std.specs.Prelude.{◌≡◌, ◌*◌, true};
+ghost use Rattle.std.specs.Prelude.{◌≡◌, ◌+◌, ◌-◌, ◌*◌, IfOk, MatchOption, length, true};
 ghost use Rattle.ring_core.specs.Coeffs.{are_elems, first_values};
 ghost use Rattle.residue_field.specs.Base.{ops_of, size_of};
 ghost use Rattle.residue_field.specs.Top.{Top, IsTop, top_ops, top_code, ops_of_top, inverse_of_top, frob_of_top, letter_of};
 ghost use Rattle.residue_field.proofs.TopLaws.{top_field};
 ghost use Rattle.residue_field.proofs.TopFrob.{top_frob_field};
 ghost use Rattle.residue_field.specs.declared.TheConstants.{WIDTH};
+ghost use Rattle.finite_ring.specs.Finite.{HasNoPair};
+ghost use Rattle.field_tower.specs.Places.{IsModulus};
+ghost use Rattle.field_tower.specs.Pairs.{IsPair};
 ghost use Rattle.field_tower.specs.Images.{frob_image};
 
 use super::accept::find_pair;
@@ -46,6 +49,21 @@ pub struct TowerRefused {
     pub why: TowerFault,
 }
 
+/// Two nonzero residues modulo `modulus` of degree `n` whose product is zero, None where there are none.
+fn top_pair(
+    alloc: Global,
+    base: &BaseField,
+    n: usize,
+    modulus: &[Code],
+) -> Result<Option<(TopElem, TopElem)>, NoMemory>
+    requires monic { IsModulus (ops_of base.now) modulus.now }
+    requires degree { length modulus.now ≡ n + 1 }
+    ensures { let t = top_ops base.now (n - 1) modulus.now in
+        IfOk result (λ o. MatchOption o (HasNoPair t) (λ pair. IsPair t pair.0 pair.1)) }
+{
+    find_pair(alloc, base, base.q(), modulus)
+}
+
 impl Tower {
     ghost use Rattle.field_tower.specs.MakeTop.{MakesTop};
 
@@ -77,7 +95,7 @@ impl Tower {
                 why: TowerFault::BadModulus,
             });
         }
-        match find_pair(alloc, &base, degree, modulus) {
+        match top_pair(alloc, &base, degree, modulus) {
             Ok(None) => (),
             Ok(Some((a, b))) => {
                 return Err(TowerRefused {

@@ -1,7 +1,7 @@
 -- A product with the letter is the step by which polynomials act, and the powers of the letter below the
 -- degree have one coefficient that is one.
-use Rattle.std.proofs.Common.{◌≡◌, ℕ, zero, suc, ◌+◌, ◌<◌, ◌≤◌, true, cond, nat_eq, sym, refl, ap, ap₂, subst, ◌∙◌, arith, ne_eqb}
-use Rattle.std.proofs.lemmas.Bool.{cond-false}
+use Rattle.std.proofs.Common.{◌≡◌, ℕ, zero, suc, ◌+◌, ◌<◌, ◌≤◌, true, cond, nat_eq, sym, refl, ap, ap₂, subst, ◌∙◌, arith, eq-eqb, ne_eqb, inl, inr}
+use Rattle.std.proofs.lemmas.Bool.{cond-false, cases_eq}
 use mathlib.Core.Path.{fun_ext}
 use Rattle.ring_core.specs.Ring.{RingOps, IsElem, IsRing, IsCommutative}
 use Rattle.ring_core.specs.Powers.{power_of}
@@ -12,7 +12,13 @@ use Rattle.residue_field.proofs.Act.{shift, x_act, act, constant, x-eq, act-x, a
 use Rattle.residue_field.proofs.Reduce.{Residue, IsBelow, x-below}
 use Rattle.residue_field.proofs.ResidueRing.{modulus_on, has_top, value_on, constant-is, value-pack, product-is, product-in, residue-value}
 use Rattle.residue_field.proofs.Coordinates.{unit-in, place-unit}
-use Rattle.residue_field.proofs.Acceptance.{same-suc}
+
+same-suc : (j i : ℕ) → nat_eq (suc j) (suc i) ≡ nat_eq j i
+same-suc j i =
+    elim (cases_eq j i) [
+      | inl e ↦ eq-eqb (suc j) (suc i) (ap suc e) ∙ sym (eq-eqb j i e)
+      | inr ne ↦ ne_eqb (suc j) (suc i) (λ d. ne (omega arith)) ∙ sym (ne_eqb j i ne)
+    ]
 
 -- the polynomial x acts on one as the step
 letter-act : {M : Type 0} (R : RingOn M) (commutes : (a b : M) → R.mul a b ≡ R.mul b a) (n : ℕ) (f : ℕ → M) (i : ℕ)

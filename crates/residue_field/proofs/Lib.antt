@@ -21,3 +21,4 @@ pub mod Coordinates
 pub mod Period
 pub mod Acceptance
 pub mod Letter
+pub mod Storage

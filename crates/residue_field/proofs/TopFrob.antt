@@ -1,42 +1,23 @@
--- Top fields with their Frobenius, and the test by which residues over a base field are a top field.
-use Rattle.std.proofs.Common.{◌≡◌, ℕ, ◌-◌, ◌^◌, ◌<◌, ◌≤◌, List, sym, ap, subst, ◌∙◌, arith}
+-- Top fields with their Frobenius.
+use Rattle.std.proofs.Common.{◌≡◌, ℕ, ◌-◌, ◌^◌, ◌<◌, ◌≤◌, sym, ap, subst, ◌∙◌, arith}
 use Rattle.ring_core.specs.Ring.{IsElem, IsRing}
 use Rattle.ring_core.specs.Field.{IsFrobField}
 use Rattle.ring_core.specs.Coeffs.{coeff, sum_below}
 use Rattle.ring_core.specs.Powers.{power_of}
 use Rattle.ring_core.proofs.Carrier.{elements}
-use Rattle.finite_ring.specs.Finite.{HasNoPair, IsPowerLinear}
 use Rattle.finite_ring.proofs.Frobenius.{IsFiniteField}
 use Rattle.residue_field.specs.declared.TopElem.{TopElem}
 use Rattle.residue_field.specs.declared.TheConstants.{WIDTH}
-use Rattle.residue_field.specs.Residue.{constant_at, residue_unit}
-use Rattle.residue_field.specs.Base.{Base, ops_of, size_of}
+use Rattle.residue_field.specs.Residue.{residue_unit}
+use Rattle.residue_field.specs.Base.{ops_of, size_of}
 use Rattle.residue_field.specs.TopElem.{top_places}
 use Rattle.residue_field.specs.Top.{Top, top_ops, ops_of_top, embed_of, from_coords, frob_of_top, letter_of}
 use Rattle.residue_field.proofs.BaseLaws.{base_ring, base_commutes}
 use Rattle.residue_field.proofs.BaseFinite.{base_finite}
-use Rattle.residue_field.proofs.TopLaws.{IsTopShape, top_monic, top_stored, top_degree, top_shape_of}
-use Rattle.residue_field.proofs.Embedded.{residue_linear, residue_accepted}
+use Rattle.residue_field.proofs.TopLaws.{top_monic, top_stored, top_degree, top_shape_of}
 use Rattle.residue_field.proofs.Letter.{letter_power}
 use Rattle.residue_field.proofs.Coordinates.{linear_places}
 use Rattle.residue_field.proofs.FrobLaws.{residue_frob_field, residue_finite}
-
-module _ (base : Base) (n : ℕ) (modulus : List ℕ) (shape : IsTopShape base n modulus) where
-  -- the power by the size of the base is linear, whether or not the residues are a field
-  pub top_shape_linear : IsPowerLinear (ops_of base) (top_ops base n modulus) (λ b. (top_places (ops_of base) n).pack (constant_at (ops_of base) b)) (size_of base)
-  unfolding top_ops
-  top_shape_linear =
-      residue_linear (ops_of base) (base_ring base) (base_commutes base) n _ (top_monic base n modulus shape)
-      (top_places (ops_of base) n) (top_stored base n modulus shape) (size_of base) (base_finite base (base_ring base))
-
-  pub top_shape_accepted : ((x : TopElem) → IsElem (top_ops base n modulus) x → power_of (top_ops base n modulus) x (size_of base) ≡ (top_ops base n modulus).zero → x ≡ (top_ops base n modulus).zero)
-      → ((x : TopElem) → IsElem (top_ops base n modulus) x → power_of (top_ops base n modulus) x (size_of base) ≡ x
-      → (b : ℕ) × IsElem (ops_of base) b × (x ≡ (top_places (ops_of base) n).pack (constant_at (ops_of base) b)))
-      → HasNoPair (top_ops base n modulus)
-  unfolding top_ops
-  top_shape_accepted =
-      residue_accepted (ops_of base) (base_ring base) (base_commutes base) n _ (top_monic base n modulus shape)
-      (top_places (ops_of base) n) (top_stored base n modulus shape) (size_of base) (base_finite base (base_ring base))
 
 pub top_frob_field : (t : Top) → IsFrobField (ops_of_top t) (ops_of t.base) (frob_of_top t)
 unfolding top_ops embed_of from_coords

@@ -1,6 +1,6 @@
 -- Top fields are fields. The laws of the ring hold for every monic modulus; that no two nonzero residues
 -- multiply to zero gives the field.
-use Rattle.std.proofs.Common.{◌≡◌, ◌≢◌, ℕ, suc, ◌+◌, ◌-◌, ◌^◌, ◌<◌, ◌≤◌, List, length, true, sym, ap, subst, ◌∙◌, arith}
+use Rattle.std.proofs.Common.{◌≡◌, ℕ, suc, ◌+◌, ◌-◌, ◌^◌, ◌<◌, ◌≤◌, List, length, true, sym, ap, subst, ◌∙◌, arith}
 use Rattle.ring_core.specs.Ring.{IsRing, IsCommutative}
 use Rattle.ring_core.specs.Field.{IsField}
 use Rattle.ring_core.specs.Coeffs.{coeff, are_elems}
@@ -14,7 +14,7 @@ use Rattle.residue_field.specs.Base.{Base, ops_of, size_of}
 use Rattle.residue_field.specs.TopElem.{top_places}
 use Rattle.residue_field.specs.Top.{Top, top_ops, ops_of_top, inverse_of_top}
 use Rattle.residue_field.proofs.TopPlaces.{top_stores}
-use Rattle.residue_field.proofs.ResidueRing.{residue_ring, residue_commutes, residue_one}
+use Rattle.residue_field.proofs.ResidueRing.{residue_ring, residue_commutes}
 use Rattle.residue_field.proofs.Counted.{residue_counted, residue_field}
 use Rattle.residue_field.proofs.BaseLaws.{base_ring, base_commutes, base_one, base_counted}
 
@@ -45,10 +45,6 @@ module _ (base : Base) (n : ℕ) (modulus : List ℕ) (shape : IsTopShape base n
   pub top_shape_commutes : IsCommutative (top_ops base n modulus)
   unfolding top_ops
   top_shape_commutes = residue_commutes (ops_of base) (base_ring base) (base_commutes base) n _ top_monic (top_places (ops_of base) n) top_stored
-
-  pub top_shape_one : (top_ops base n modulus).one ≢ (top_ops base n modulus).zero
-  unfolding top_ops
-  top_shape_one = residue_one (ops_of base) (base_ring base) (base_commutes base) n _ top_monic (top_places (ops_of base) n) top_stored (base_one base)
 
   pub top_shape_counted : (ring : IsRing (top_ops base n modulus)) → IsCounted (elements ring) (size_of base ^ suc n)
   unfolding top_ops

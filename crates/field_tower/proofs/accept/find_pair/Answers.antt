@@ -4,26 +4,22 @@ use Rattle.field_tower.proofs.PairValues.{fixed_from, accepted}
 use Rattle.field_tower.proofs.accept.find_pair.Goals as goal
 
 pub factor_pair-requires-clause-power : goal.factor_pair-requires-clause-power
-factor_pair-requires-clause-power c =
-    let base = c.args.base.now in
-    let n = c.args.n in
+factor_pair-requires-clause-power g c =
+    let r = g.F.Field.ops c.args.field.now in
+    let q = c.args.q in
     let modulus = c.args.modulus.now in
-    let len = c.requires.degree in
-    let monic = c.requires.monic in
     let is : c.in_ok-x-2.field-0 ≡ Some c.in-Some-2.x = c.in-Some-2.is in
-    let found : IsInKernel base n modulus true 1 c.in-Some-2.x =
-    subst (λ o. MatchOption o (HasLowKernel base n modulus true 1) (IsInKernel base n modulus true 1)) is c.in_ok-x-2.ensures in
-    fixed_from base n modulus len monic c.in-Some-2.x found.elem found.image
+    let found : IsInKernel r q modulus true 1 c.in-Some-2.x =
+    subst (λ o. MatchOption o (HasLowKernel r q modulus true 1) (IsInKernel r q modulus true 1)) is c.in_ok-x-2.ensures in
+    fixed_from r q c.requires.constants modulus c.requires.monic c.in-Some-2.x found.elem found.image
 
 pub returns : goal.returns
-returns c =
-    let base = c.args.base.now in
-    let n = c.args.n in
+returns g c =
+    let r = g.F.Field.ops c.args.field.now in
+    let q = c.args.q in
     let modulus = c.args.modulus.now in
-    let len = c.requires.degree in
-    let monic = c.requires.monic in
     let none : c.in_ok-x.field-0 ≡ None = c.in_default.is in
     let last : c.in_ok-x-2.field-0 ≡ None = c.in_default-2.is in
-    accepted base n modulus len monic
-    (subst (λ o. MatchOption o (HasLowKernel base n modulus false 0) (IsInKernel base n modulus false 0)) none c.in_ok-x.ensures)
-    (subst (λ o. MatchOption o (HasLowKernel base n modulus true 1) (IsInKernel base n modulus true 1)) last c.in_ok-x-2.ensures)
+    accepted r q c.requires.constants modulus c.requires.monic
+    (subst (λ o. MatchOption o (HasLowKernel r q modulus false 0) (IsInKernel r q modulus false 0)) none c.in_ok-x.ensures)
+    (subst (λ o. MatchOption o (HasLowKernel r q modulus true 1) (IsInKernel r q modulus true 1)) last c.in_ok-x-2.ensures)

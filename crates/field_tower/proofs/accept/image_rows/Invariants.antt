@@ -1,11 +1,11 @@
-use Rattle.std.proofs.Common.{◌≡◌}
+use Rattle.std.proofs.Common.{◌≡◌, ◌-◌, length}
 use Rattle.ring_core.specs.Coeffs.{first_values}
 use Rattle.field_tower.specs.Kernel.{image_row}
 use Rattle.field_tower.proofs.accept.image_rows.Given as goal
 
 abbrev pub invariant-loop-j : goal.invariant-loop-j
-invariant-loop-j l =
+invariant-loop-j g l =
     record {
-      width : l.rows.width ≡ l.n;
-      rows : l.rows.rows ≡ first_values l.j (image_row l.base l.n l.modulus l.less);
+      width : l.rows.width ≡ length l.modulus - 1;
+      rows : l.rows.rows ≡ first_values l.j (image_row (g.F.Field.ops l.field) l.q l.modulus l.less);
     }

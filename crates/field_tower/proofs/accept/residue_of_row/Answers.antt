@@ -2,15 +2,14 @@ use Rattle.std.proofs.Common.{◌≡◌, ◌≢◌, ◌+◌, ◌-◌, ◌<◌, �
 use Rattle.linear_algebra.specs.Linear.{row_at, entry}
 use Rattle.linear_algebra.proofs.RowLists.{row_len, rows_at}
 use Rattle.residue_field.specs.declared.TheConstants.{WIDTH}
-use Rattle.residue_field.specs.Base.{ops_of}
 use Rattle.field_tower.proofs.Writes.{written, unwritten}
 use Rattle.field_tower.proofs.Stored.{stored_from}
 use Rattle.field_tower.proofs.Kernels.{place_read}
 use Rattle.field_tower.proofs.accept.residue_of_row.Goals as goal
 
 pub loop-j-preserved : goal.loop-j-preserved
-loop-j-preserved c =
-    let r = ops_of c.args.base.now in
+loop-j-preserved g c =
+    let r = g.F.Field.ops c.args.field.now in
     let rows = c.args.rows.now.rows in
     let j = c.loop-j.j in
     let before = c.loop-j.invariant in
@@ -26,8 +25,8 @@ loop-j-preserved c =
     }
 
 pub returns : goal.returns
-returns c =
-    let r = ops_of c.args.base.now in
+returns g c =
+    let r = g.F.Field.ops c.args.field.now in
     let n = c.args.n in
     let positive : 0 < n = c.requires.positive in
     let last = c.loop-j.invariant in

@@ -1,7 +1,6 @@
 use Rattle.std.proofs.Common.{◌≡◌, ◌≢◌, ℕ, suc, ◌-◌, ◌<◌, ◌≤◌, cond, nat_eq, length, length-set, slice_set, sym, ◌∙◌, arith, refl, eq-eqb, ne_eqb}
 use Rattle.std.proofs.lemmas.Bool.{cond-true, cond-false}
 use Rattle.residue_field.specs.declared.TheConstants.{WIDTH}
-use Rattle.residue_field.specs.Base.{ops_of}
 use Rattle.field_tower.specs.Places.{stored}
 use Rattle.field_tower.proofs.Writes.{written, unwritten}
 use Rattle.field_tower.proofs.Stored.{stored_from}
@@ -9,8 +8,8 @@ use Rattle.field_tower.proofs.accept.unit.Goals as goal
 
 pub returns : goal.returns
 unfolding stored
-returns c =
-    let r = ops_of c.args.base.now in
+returns g c =
+    let r = g.F.Field.ops c.args.field.now in
     let n = c.args.n in
     let j = c.args.j in
     let u = c.zeros-list.result in

@@ -1,17 +1,25 @@
-use Rattle.std.proofs.Common.{◌≡◌, suc, ◌-◌, ◌^◌, ◌≤◌, sym, ap, subst, ◌∙◌, arith}
+use Rattle.std.proofs.Common.{length, None, MatchOption, ◌≡◌, ◌-◌, ◌≤◌, sym, subst}
+use Rattle.finite_ring.specs.Finite.{HasNoPair}
 use Rattle.residue_field.specs.Tables.{IsRow, IsTable}
 use Rattle.residue_field.specs.Prime.{prime_ops}
 use Rattle.residue_field.specs.Base.{base_ops}
 use Rattle.field_tower.specs.Places.{IsModulus}
-use Rattle.field_tower.specs.Pairs.{HasNoZero, IsZeroAt}
-use Rattle.field_tower.proofs.BaseTables.{modulus_of, moved, zero_pair, no_pair}
+use Rattle.field_tower.specs.Pairs.{IsPair}
+use Rattle.field_tower.proofs.BaseTables.{modulus_of, moved}
 use Rattle.field_tower.proofs.base.make_reduced.Goals as goal
+
+pub code_pair-requires-clause-monic : goal.code_pair-requires-clause-monic
+code_pair-requires-clause-monic c =
+    let p = c.args.prime.p in
+    let small = subst (λ n. n ≤ _) c.requires.count c.requires.small in
+    subst (IsModulus (prime_ops p)) (sym c.deref.ensures.value)
+    (modulus_of p c.args.s c.args.modulus.items c.args.prime.listed c.requires.degree small c.requires.members c.requires.elems c.requires.monic)
 
 pub product_table-requires-clause-monic : goal.product_table-requires-clause-monic
 product_table-requires-clause-monic c =
     let p = c.args.prime.p in
     let small = subst (λ n. n ≤ _) c.requires.count c.requires.small in
-    subst (IsModulus (prime_ops p)) (sym c.deref.ensures.value)
+    subst (IsModulus (prime_ops p)) (sym c.deref-2.ensures.value)
     (modulus_of p c.args.s c.args.modulus.items c.args.prime.listed c.requires.degree small c.requires.members c.requires.elems c.requires.monic)
 
 pub sum_table-requires-clause-monic : goal.sum_table-requires-clause-monic
@@ -28,19 +36,6 @@ negative_row-requires-clause-monic c =
     subst (IsModulus (prime_ops p)) (sym c.deref-4.ensures.value)
     (modulus_of p c.args.s c.args.modulus.items c.args.prime.listed c.requires.degree small c.requires.members c.requires.elems c.requires.monic)
 
-pub returns-in-Some : goal.returns-in-Some
-returns-in-Some c =
-    let p = c.args.prime.p in
-    let s = c.args.s in
-    let q = c.args.q in
-    let modulus = c.args.modulus.items in
-    let products = c.in-Ok.products.items in
-    let positive = c.requires.degree in
-    let degree : s ≡ suc (s - 1) = omega arith in
-    let table = moved (λ n u. IsTable q (base_ops p n u).mul products) _ modulus s c.deref.ensures.value c.requires.members c.in-Ok.ensures in
-    zero_pair p (s - 1) modulus q (c.requires.count ∙ ap (λ m. p ^ m) degree) products table _ _
-    (subst (λ l. IsZeroAt q l c.in-Some.a c.in-Some.b) c.deref-2.ensures.value c.in-Some.ensures)
-
 pub invariant_of-result : goal.invariant_of-result
 invariant_of-result c =
     let p = c.args.prime.p in
@@ -51,16 +46,19 @@ invariant_of-result c =
     let sums = c.in-Ok-sum_table.sums.items in
     let negatives = c.in-Ok-negative_row.negatives.items in
     let positive = c.requires.degree in
-    let degree : s ≡ suc (s - 1) = omega arith in
-    let table = moved (λ n u. IsTable q (base_ops p n u).mul products) _ modulus s c.deref.ensures.value c.requires.members c.in-Ok.ensures in
-    let none = subst (HasNoZero q) c.deref-2.ensures.value c.in_default-find_zero.ensures in (
+    let table = moved (λ n u. IsTable q (base_ops p n u).mul products) _ modulus s c.deref-2.ensures.value c.requires.members c.in-Ok.ensures in
+    let w = c.deref.result.now in
+    let k = base_ops p (length w - 2) w in
+    let answer : c.in-Ok-None.field-0 ≡ None = c.in-Ok-None.field-0-is in
+    let none = subst (λ o. MatchOption o (HasNoPair k) (λ pair. IsPair k pair.0 pair.1)) answer c.in-Ok-None.ensures in
+    let no_pair = moved (λ n u. HasNoPair (base_ops p n u)) w modulus s c.deref.ensures.value c.requires.members none in (
       (
         c.args.prime.listed,
         positive,
         c.requires.elems,
         c.requires.members,
         c.requires.monic,
-        no_pair p (s - 1) modulus q (c.requires.count ∙ ap (λ m. p ^ m) degree) products table none,
+        no_pair,
       ),
       (
         c.requires.count,

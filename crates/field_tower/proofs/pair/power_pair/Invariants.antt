@@ -1,12 +1,12 @@
-use Rattle.std.proofs.Common.{◌≡◌, ◌≢◌, ◌-◌}
+use Rattle.std.proofs.Common.{◌≡◌, ◌≢◌}
 use Rattle.ring_core.specs.Ring.{IsElem}
 use Rattle.ring_core.specs.Powers.{power_of}
-use Rattle.residue_field.specs.Top.{top_ops}
+use Rattle.field_tower.specs.Places.{stored_ops}
 use Rattle.field_tower.proofs.pair.power_pair.Given as goal
 
 abbrev pub invariant-loop-i : goal.invariant-loop-i
-invariant-loop-i l =
-    let t = top_ops l.base (l.n - 1) l.modulus in
+invariant-loop-i g l =
+    let t = stored_ops (g.F.Field.ops l.field) l.modulus in
     record {
       elem : IsElem t l.power;
       value : l.power ≡ power_of t l.x l._i;

@@ -1,0 +1,90 @@
+-- Pairs of codes, from pairs of residues in places.
+use native.Mathlib.Nat.{pow-le-pow_right, pow-zero}
+use Rattle.std.proofs.Common.{◌≡◌, ℕ, suc, ◌-◌, ◌*◌, ◌^◌, ◌<◌, ◌≤◌, true, List, length, slice_index, ap, sym, subst, ◌∙◌, arith, pow-suc}
+use Rattle.ring_core.specs.Ring.{IsElem, IsRing}
+use Rattle.ring_core.specs.Coeffs.{coeff}
+use Rattle.finite_ring.specs.Finite.{HasNoPair}
+use Rattle.residue_field.specs.declared.TopElem.{TopElem}
+use Rattle.residue_field.specs.Residue.{IsPlaces}
+use Rattle.residue_field.specs.TopElem.{top_places}
+use Rattle.residue_field.specs.Prime.{is_listed, prime_ops}
+use Rattle.residue_field.specs.Digits.{number, code_places}
+use Rattle.residue_field.specs.Base.{base_ops}
+use Rattle.residue_field.proofs.Modular.{prime_ring, prime_commutes}
+use Rattle.residue_field.proofs.Listed.{listed_large}
+use Rattle.residue_field.proofs.DigitLaws.{code_stores}
+use Rattle.residue_field.proofs.Storage.{moved_in, moved_nonzero, moved_product, no_pair_moved}
+use Rattle.field_tower.specs.declared.size.TheConstants.{CODES}
+use Rattle.field_tower.specs.Places.{IsModulus, stored_ops}
+use Rattle.field_tower.specs.Constants.{IsFieldOfCodes}
+use Rattle.field_tower.specs.Pairs.{IsPair}
+use Rattle.field_tower.proofs.Stored.{fits_of, modulus_monic, stores_of, stored_of}
+use Rattle.field_tower.proofs.CodeDigits.{digits_below}
+use Rattle.field_tower.proofs.ConstantValues.{prime_codes}
+
+module _ (p : ℕ) (listed : is_listed p ≡ true) (modulus : List ℕ) (monic : IsModulus (prime_ops p) modulus) where
+  abbrev d : ℕ
+  d = length modulus - 2
+
+  large : 1 < p
+  large = listed_large p listed
+
+  ring : IsRing (prime_ops p)
+  ring = prime_ring p large
+
+  places : IsPlaces (prime_ops p) d (top_places (prime_ops p) d)
+  places = stores_of (prime_ops p) ring modulus monic
+
+  codes : IsPlaces (prime_ops p) d (code_places p d)
+  codes = code_stores p d (omega (arith, large))
+
+  pub prime_constants : p ^ (length modulus - 1) ≤ CODES → IsFieldOfCodes (prime_ops p) p
+  prime_constants small =
+      let degree : 2 ≤ length modulus = monic.degree in
+      let positive : 0 < p = omega (arith, large) in
+      let some : 1 ≤ length modulus - 1 = omega arith in
+      let once : p ^ 1 ≤ p ^ (length modulus - 1) = pow-le-pow_right positive some in
+      let one : p ^ 1 ≡ 1 * p = pow-suc p 0 ∙ ap (λ x. x * p) (pow-zero p) in
+      prime_codes p listed (omega arith)
+
+  pub no_code_pair : HasNoPair (stored_ops (prime_ops p) modulus) → HasNoPair (base_ops p d modulus)
+  unfolding stored_ops base_ops
+  no_code_pair =
+      no_pair_moved (prime_ops p) ring (prime_commutes p) d (coeff (prime_ops p) modulus) (modulus_monic (prime_ops p) ring modulus monic)
+      (top_places (prime_ops p) d) places (code_places p d) codes
+
+  pub digits_small : (t : TopElem) → IsElem (stored_ops (prime_ops p) modulus) t → (i : ℕ) → slice_index t.0 i < p
+  digits_small t e =
+      let degree : 2 ≤ length modulus = monic.degree in
+      let size : length modulus - 1 ≡ suc d = omega arith in
+      digits_below p d large (fits_of (prime_ops p) ring modulus monic) (length modulus - 1) size t (stored_of (prime_ops p) modulus t e)
+
+  -- the code of a residue
+  code_of : TopElem → ℕ
+  code_of t = number p (suc d) (slice_index t.0)
+
+  pair_of_codes : (a b : TopElem) → IsPair (stored_ops (prime_ops p) modulus) a b → IsPair (base_ops p d modulus) (code_of a) (code_of b)
+  unfolding stored_ops base_ops code_of
+  pair_of_codes a b pair =
+      let r = prime_ops p in
+      let f = coeff r modulus in
+      let m = modulus_monic r ring modulus monic in
+      let c = top_places r d in
+      let k = code_places p d in
+      record {
+        left_in = moved_in r ring (prime_commutes p) d f m c places k codes a pair.left_in;
+        right_in = moved_in r ring (prime_commutes p) d f m c places k codes b pair.right_in;
+        left_nonzero = moved_nonzero r ring (prime_commutes p) d f m c places k codes a pair.left_in pair.left_nonzero;
+        right_nonzero = moved_nonzero r ring (prime_commutes p) d f m c places k codes b pair.right_in pair.right_nonzero;
+        product_zero = moved_product r ring (prime_commutes p) d f m c places k codes a b pair.left_in pair.right_in pair.product_zero;
+      }
+
+  pub code_pair_made : (a b : TopElem) (x y : ℕ) → IsPair (stored_ops (prime_ops p) modulus) a b
+      → x ≡ number p (length modulus - 1) (slice_index a.0) → y ≡ number p (length modulus - 1) (slice_index b.0) → IsPair (base_ops p d modulus) x y
+  unfolding code_of
+  code_pair_made a b x y pair is_x is_y =
+      let degree : 2 ≤ length modulus = monic.degree in
+      let size : length modulus - 1 ≡ suc d = omega arith in
+      let code = λ (t : TopElem). ap (λ k. number p k (slice_index t.0)) size in
+      subst (λ v. IsPair (base_ops p d modulus) x v) (sym (is_y ∙ code b))
+      (subst (λ u. IsPair (base_ops p d modulus) u (code_of b)) (sym (is_x ∙ code a)) (pair_of_codes a b pair))
