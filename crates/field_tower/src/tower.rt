@@ -1,17 +1,21 @@
-ghost use Rattle.std.specs.Prelude.{◌≡◌, ◌*◌, true};
+ghost use Rattle.std.specs.Prelude.{◌≡◌, ◌*◌, IfOk, true};
+ghost use Rattle.ring_core.specs.Ring.{IsElem};
 ghost use Rattle.ring_core.specs.Coeffs.{are_elems, first_values};
 ghost use Rattle.residue_field.specs.Base.{ops_of, size_of};
-ghost use Rattle.residue_field.specs.Top.{Top, IsTop, top_ops, top_code, ops_of_top, inverse_of_top, frob_of_top, letter_of};
+ghost use Rattle.residue_field.specs.Top.{Top, IsTop, top_ops, top_code, ops_of_top, inverse_of_top, embed_of, frob_of_top, letter_of};
 ghost use Rattle.residue_field.proofs.TopLaws.{top_field};
 ghost use Rattle.residue_field.proofs.TopFrob.{top_frob_field};
 ghost use Rattle.residue_field.specs.declared.TheConstants.{WIDTH};
 ghost use Rattle.field_tower.specs.Images.{frob_image};
+ghost use Rattle.field_tower.specs.MinPoly.{IsMinPoly};
 
 use super::accept::find_pair;
 use super::base::BaseField;
 use super::fault::TowerFault;
 use super::frobenius::{combination, images};
+use super::min_poly::least_relation;
 use super::places;
+use fq_poly::Poly;
 use residue_field::{Code, TopElem, WIDTH};
 use ring_core::{Field, FrobField, NoMemory};
 use std::alloc::Global;
@@ -110,6 +114,15 @@ impl Tower {
             modulus,
             images,
         })
+    }
+
+    /// The monic polynomial of least degree over the base that has the root `c`, lowest coefficient first.
+    /// Only want of memory refuses it.
+    pub fn min_poly(&self, alloc: Global, c: TopElem) -> Result<Poly<Code>, NoMemory>
+        requires { IsElem (ops_of_top self.now) c }
+        ensures { IfOk result (IsMinPoly (ops_of_top self.now) (ops_of self.now.base) (embed_of self.now) c) }
+    {
+        Ok(Poly::from_vec(least_relation(alloc, self, c)?))
     }
 
     /// The residue of the polynomial `z`.
