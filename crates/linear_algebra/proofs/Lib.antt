@@ -9,3 +9,4 @@ pub mod Echelon
 pub mod Transform
 pub mod Tops
 pub mod RowLists
+pub mod Dependent

@@ -2,7 +2,7 @@
 -- relations move through it. Products need not commute.
 use Rattle.std.proofs.Common.{◌≡◌, ◌≢◌, ℕ, ◌<◌, inl, inr, refl, sym, ◌∙◌, ap, ap₂}
 use Rattle.ring_core.proofs.Carrier.{RingOn, add_zero, zero_mul, mul_zero, neg_mul, mul_neg}
-use Rattle.linear_algebra.proofs.Sums.{total, combine, unit, total_same, total_add, total_right, total_single, combine_add, combine_scale, combine_unit, unit_combine, unit_same, unit_other, product_assoc, same_or_other}
+use Rattle.linear_algebra.proofs.Sums.{combine, unit, total_same, total_add, total_right, total_single, combine_add, combine_scale, combine_unit, unit_combine, unit_same, unit_other, product_assoc, same_or_other}
 use Rattle.linear_algebra.proofs.Spans.{minus_plus}
 
 -- `c` times row `q` is added to row `p`.
