@@ -10,3 +10,5 @@ pub mod TopValues
 pub mod FrobMap
 pub mod Kernels
 pub mod PairValues
+pub mod Coordinates
+pub mod MinPoly

@@ -69,5 +69,5 @@ pub(crate) fn least_relation<K: FrobField>(
         // one row more than there are coordinates can't be independent
         unreachable!()
     };
-    monic_relation(alloc, k.base(), &coefficients)
+    Ok(monic_relation(alloc, k.base(), &coefficients)?)
 }
