@@ -50,8 +50,16 @@ pub struct TowerRefused {
     pub why: TowerFault,
 }
 
+/// What a top field keeps beside its base.
+#[derive(Drop)]
+struct TopParts {
+    modulus: Vec<Code>,
+    images: Vec<TopElem>,
+}
+
 impl Tower {
-    ghost use Rattle.field_tower.specs.MakeTop.{MakesTop};
+    ghost use Rattle.std.specs.Prelude.{MatchResult};
+    ghost use Rattle.field_tower.specs.MakeTop.{MakesTop, IsTopFault, ArePartsOf};
 
     /// The field of the residues modulo `modulus`, whose `n + 1` members are elements of `base`, lowest
     /// coefficient first. The refusals come in this order: `TooLarge` where `n` is 0 or more than
@@ -68,52 +76,46 @@ impl Tower {
         requires members { are_elems (ops_of base) modulus.now ≡ true }
         ensures { MakesTop base n modulus.now result }
     {
+        match Tower::parts(alloc, &base, n, modulus) {
+            Ok(TopParts { modulus, images }) => Ok(Tower {
+                base,
+                n,
+                modulus,
+                images,
+            }),
+            Err(why) => Err(TowerRefused { base, why }),
+        }
+    }
+
+    /// What the top field of these data keeps beside the base, or why they are no top field.
+    fn parts(
+        alloc: Global,
+        base: &BaseField,
+        n: u32,
+        modulus: &[Code],
+    ) -> Result<TopParts, TowerFault>
+        requires members { are_elems (ops_of base.now) modulus.now ≡ true }
+        ensures { MatchResult result (λ parts. ArePartsOf base.now n modulus.now parts.modulus.items parts.images.items) (IsTopFault base.now n modulus.now) }
+    {
         let degree = n as usize;
         if degree == 0 || degree > WIDTH {
-            return Err(TowerRefused {
-                base,
-                why: TowerFault::TooLarge,
-            });
+            return Err(TowerFault::TooLarge);
         }
         if modulus.len() != degree + 1 || modulus[degree] != base.one() {
-            return Err(TowerRefused {
-                base,
-                why: TowerFault::BadModulus,
-            });
+            return Err(TowerFault::BadModulus);
         }
-        match find_pair(alloc, &base, degree, modulus) {
+        match find_pair(alloc, base, degree, modulus) {
             Ok(None) => (),
-            Ok(Some((a, b))) => {
-                return Err(TowerRefused {
-                    base,
-                    why: TowerFault::ZeroDivisors { a, b },
-                });
-            }
-            Err(NoMemory) => {
-                return Err(TowerRefused {
-                    base,
-                    why: TowerFault::NoMemory,
-                });
-            }
+            Ok(Some((a, b))) => return Err(TowerFault::ZeroDivisors { a, b }),
+            Err(NoMemory) => return Err(TowerFault::NoMemory),
         }
-        let Ok(images) = images(alloc, &base, degree, modulus) else {
-            return Err(TowerRefused {
-                base,
-                why: TowerFault::NoMemory,
-            });
+        let Ok(images) = images(alloc, base, degree, modulus) else {
+            return Err(TowerFault::NoMemory);
         };
         let Ok(modulus) = Vec::from_slice(alloc, modulus) else {
-            return Err(TowerRefused {
-                base,
-                why: TowerFault::NoMemory,
-            });
+            return Err(TowerFault::NoMemory);
         };
-        Ok(Tower {
-            base,
-            n,
-            modulus,
-            images,
-        })
+        Ok(TopParts { modulus, images })
     }
 
     /// The monic polynomial of least degree over the base that has the root `c`, lowest coefficient first.

@@ -39,7 +39,7 @@ loop-i-preserved g c =
           values_more (poly_ops base) i (power_row r f c.args.c) c.loop-i.rows.rows c.push.new.self.rows c.deref.result.now
           c.in_ok-push.ensures.rows before.rows
           (c.deref.ensures.value ∙ c.in_ok-row.ensures ∙ ap (λ y. first_values f.degree (f.coord y)) before.power);
-      elem = ap r.is_elem c.mul-power.ensures ∙ (g.met.K.Field.laws k).ring.closed.mul_in _ _ before.elem c.requires;
+      elem = ap r.is_elem c.mul-power.ensures ∙ (g.met.K.Field.laws k).ring.closed.mul_in c.loop-i.power c.args.c before.elem c.requires;
       power = c.mul-power.ensures ∙ ap (λ y. r.mul y c.args.c) before.power ∙ ap (power_of r c.args.c) next;
     }
 
