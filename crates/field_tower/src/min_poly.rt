@@ -49,7 +49,8 @@ fn monic_relation<F: Field>(alloc: Global, f: &F, list: &[E<F>]) -> Result<Vec<E
 {
     let mut relation = Vec::new(alloc);
     for i in 0..list.len() {
-        relation.push(f.neg(coeff_at(f, list, i)))?;
+        let negative = f.neg(coeff_at(f, list, i));
+        relation.push(negative)?;
     }
     relation.push(f.one())?;
     Ok(relation)
