@@ -13,3 +13,5 @@ pub mod Kernels
 pub mod PairValues
 pub mod ConstantValues
 pub mod CodePairs
+pub mod Coordinates
+pub mod MinPoly

@@ -5,3 +5,4 @@ pub mod MakeBase
 pub mod MakeTop
 pub mod Images
 pub mod Kernel
+pub mod MinPoly

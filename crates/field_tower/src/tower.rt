@@ -1,7 +1,8 @@
 ghost use Rattle.std.specs.Prelude.{◌≡◌, ◌+◌, ◌-◌, ◌*◌, IfOk, MatchOption, length, true};
+ghost use Rattle.ring_core.specs.Ring.{IsElem};
 ghost use Rattle.ring_core.specs.Coeffs.{are_elems, first_values};
 ghost use Rattle.residue_field.specs.Base.{ops_of, size_of};
-ghost use Rattle.residue_field.specs.Top.{Top, IsTop, top_ops, top_code, ops_of_top, inverse_of_top, frob_of_top, letter_of};
+ghost use Rattle.residue_field.specs.Top.{Top, IsTop, top_ops, top_code, ops_of_top, inverse_of_top, embed_of, frob_of_top, letter_of};
 ghost use Rattle.residue_field.proofs.TopLaws.{top_field};
 ghost use Rattle.residue_field.proofs.TopFrob.{top_frob_field};
 ghost use Rattle.residue_field.specs.declared.TheConstants.{WIDTH};
@@ -9,12 +10,15 @@ ghost use Rattle.finite_ring.specs.Finite.{HasNoPair};
 ghost use Rattle.field_tower.specs.Places.{IsModulus};
 ghost use Rattle.field_tower.specs.Pairs.{IsPair};
 ghost use Rattle.field_tower.specs.Images.{frob_image};
+ghost use Rattle.field_tower.specs.MinPoly.{IsMinPoly};
 
 use super::accept::find_pair;
 use super::base::BaseField;
 use super::fault::TowerFault;
 use super::frobenius::{combination, images};
+use super::min_poly::least_relation;
 use super::places;
+use fq_poly::Poly;
 use residue_field::{Code, TopElem, WIDTH};
 use ring_core::{Field, FrobField, NoMemory};
 use std::alloc::Global;
@@ -64,8 +68,16 @@ fn top_pair(
     find_pair(alloc, base, base.q(), modulus)
 }
 
+/// What a top field keeps beside its base.
+#[derive(Drop)]
+struct TopParts {
+    modulus: Vec<Code>,
+    images: Vec<TopElem>,
+}
+
 impl Tower {
-    ghost use Rattle.field_tower.specs.MakeTop.{MakesTop};
+    ghost use Rattle.std.specs.Prelude.{MatchResult};
+    ghost use Rattle.field_tower.specs.MakeTop.{MakesTop, IsTopFault, ArePartsOf};
 
     /// The field of the residues modulo `modulus`, whose `n + 1` members are elements of `base`, lowest
     /// coefficient first. The refusals come in this order: `TooLarge` where `n` is 0 or more than
@@ -82,52 +94,55 @@ impl Tower {
         requires members { are_elems (ops_of base) modulus.now ≡ true }
         ensures { MakesTop base n modulus.now result }
     {
+        match Tower::parts(alloc, &base, n, modulus) {
+            Ok(TopParts { modulus, images }) => Ok(Tower {
+                base,
+                n,
+                modulus,
+                images,
+            }),
+            Err(why) => Err(TowerRefused { base, why }),
+        }
+    }
+
+    /// What the top field of these data keeps beside the base, or why they are no top field.
+    fn parts(
+        alloc: Global,
+        base: &BaseField,
+        n: u32,
+        modulus: &[Code],
+    ) -> Result<TopParts, TowerFault>
+        requires members { are_elems (ops_of base.now) modulus.now ≡ true }
+        ensures { MatchResult result (λ parts. ArePartsOf base.now n modulus.now parts.modulus.items parts.images.items) (IsTopFault base.now n modulus.now) }
+    {
         let degree = n as usize;
         if degree == 0 || degree > WIDTH {
-            return Err(TowerRefused {
-                base,
-                why: TowerFault::TooLarge,
-            });
+            return Err(TowerFault::TooLarge);
         }
         if modulus.len() != degree + 1 || modulus[degree] != base.one() {
-            return Err(TowerRefused {
-                base,
-                why: TowerFault::BadModulus,
-            });
+            return Err(TowerFault::BadModulus);
         }
-        match top_pair(alloc, &base, degree, modulus) {
+        match top_pair(alloc, base, degree, modulus) {
             Ok(None) => (),
-            Ok(Some((a, b))) => {
-                return Err(TowerRefused {
-                    base,
-                    why: TowerFault::ZeroDivisors { a, b },
-                });
-            }
-            Err(NoMemory) => {
-                return Err(TowerRefused {
-                    base,
-                    why: TowerFault::NoMemory,
-                });
-            }
+            Ok(Some((a, b))) => return Err(TowerFault::ZeroDivisors { a, b }),
+            Err(NoMemory) => return Err(TowerFault::NoMemory),
         }
-        let Ok(images) = images(alloc, &base, degree, modulus) else {
-            return Err(TowerRefused {
-                base,
-                why: TowerFault::NoMemory,
-            });
+        let Ok(images) = images(alloc, base, degree, modulus) else {
+            return Err(TowerFault::NoMemory);
         };
         let Ok(modulus) = Vec::from_slice(alloc, modulus) else {
-            return Err(TowerRefused {
-                base,
-                why: TowerFault::NoMemory,
-            });
+            return Err(TowerFault::NoMemory);
         };
-        Ok(Tower {
-            base,
-            n,
-            modulus,
-            images,
-        })
+        Ok(TopParts { modulus, images })
+    }
+
+    /// The monic polynomial of least degree over the base that has the root `c`, lowest coefficient first.
+    /// Only want of memory refuses it.
+    pub fn min_poly(&self, alloc: Global, c: TopElem) -> Result<Poly<Code>, NoMemory>
+        requires { IsElem (ops_of_top self.now) c }
+        ensures { IfOk result (IsMinPoly (ops_of_top self.now) (ops_of self.now.base) (embed_of self.now) c) }
+    {
+        Ok(Poly::from_vec(least_relation(alloc, self, c)?))
     }
 
     /// The residue of the polynomial `z`.
