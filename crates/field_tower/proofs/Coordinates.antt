@@ -98,7 +98,7 @@ module _ {E B : Type 0} (r : RingOps E) (inv : E → Option E) (base : RingOps B
   coords-past : (c : Element r) (j : ℕ) → f.degree ≤ j → coords c j ≡ (elements kb.ring).zero
   coords-past c j past =
       same_element base (coords c j) (elements kb.ring).zero
-      (coeff_past base (first_values f.degree (f.coord c.0)) j (omega (arith, length-first_values base f.degree (f.coord c.0), past)))
+      (coeff_past base (first_values f.degree (f.coord c.0)) j (omega (arith, length-first_values f.degree (f.coord c.0), past)))
 
   coords-add : (a b : Element r) (j : ℕ) → coords ((elements k.ring).add a b) j ≡ (elements kb.ring).add (coords a j) (coords b j)
   coords-add a b j =

@@ -33,19 +33,19 @@ module _ {B : Type 0} (base : RingOps B) where
 
   length-monic : (d : List B) → length (monic_of d) ≡ suc (length d)
   length-monic d =
-      omega (arith, length-append (first_values (length d) (λ i. base.neg (coeff base d i))) (base.one ∷ []), length-first_values base (length d) (λ i. base.neg (coeff base d i)))
+      omega (arith, length-append (first_values (length d) (λ i. base.neg (coeff base d i))) (base.one ∷ []), length-first_values (length d) (λ i. base.neg (coeff base d i)))
 
   monic-low : (d : List B) (i : ℕ) → i < length d → coeff base (monic_of d) i ≡ base.neg (coeff base d i)
   monic-low d i l =
       let negative = λ (j : ℕ). base.neg (coeff base d j) in
       get_or_append_left (first_values (length d) negative) (base.one ∷ []) base.zero i
-      (omega (arith, l, length-first_values base (length d) negative))
+      (omega (arith, l, length-first_values (length d) negative))
       ∙ at-first_values (length d) negative i base.zero l
 
   monic-top : (d : List B) → coeff base (monic_of d) (length d) ≡ base.one
   monic-top d =
       let negative = first_values (length d) (λ j. base.neg (coeff base d j)) in
-      ap (coeff base (monic_of d)) (sym (length-first_values base (length d) (λ j. base.neg (coeff base d j))))
+      ap (coeff base (monic_of d)) (sym (length-first_values (length d) (λ j. base.neg (coeff base d j))))
       ∙ get_or-append_seam negative base.one [] base.zero
 
   -- no zero stands at the top of a list whose last member isn't zero
@@ -88,7 +88,7 @@ module _ {E B : Type 0} (r : RingOps E) (inv : E → Option E) (base : RingOps B
 
   module _ (rows : List (List B)) (are : rows ≡ first_values (f.degree + 1) (power_row r f x)) where
     rows_count : length rows ≡ f.degree + 1
-    rows_count = ap length are ∙ length-values (f.degree + 1) (power_row r f x)
+    rows_count = ap length are ∙ length-first_values (f.degree + 1) (power_row r f x)
 
     row_is : (i : ℕ) → i < f.degree + 1 → row_at rows i ≡ power_row r f x i
     row_is i low = ap (λ u. row_at u i) are ∙ at-first_values (f.degree + 1) (power_row r f x) i [] low
@@ -98,7 +98,7 @@ module _ {E B : Type 0} (r : RingOps E) (inv : E → Option E) (base : RingOps B
         rows_by_places base f.degree rows
         (λ i (low : i < length rows).
         ap (is_row base f.degree) (row_is i (omega (arith, low, rows_count)))
-        ∙ and_from _ _ (eq-eqb _ f.degree (length-first_values base f.degree (f.coord (power_of r x i))))
+        ∙ and_from _ _ (eq-eqb _ f.degree (length-first_values f.degree (f.coord (power_of r x i))))
         (coords_elems r inv base base_inv f k kb l (powers i)))
 
     -- there is one row more than there are coordinates

@@ -22,7 +22,7 @@ push-requires g c =
     let k = c.args.k.now in
     let f = g.K.FrobField.frob_ops k in
     ap length (c.deref.ensures.value ∙ c.in_ok-row.ensures)
-    ∙ length-first_values (g.K.Base.Field.ops (g.K.FrobField.base_of k)) f.degree (f.coord c.loop-i.power)
+    ∙ length-first_values f.degree (f.coord c.loop-i.power)
     ∙ sym c.loop-i.invariant.width
 
 pub loop-i-preserved : goal.loop-i-preserved
