@@ -5,6 +5,8 @@
 #[cfg(test)]
 mod data;
 #[cfg(test)]
+mod min_polys;
+#[cfg(test)]
 mod moduli;
 #[cfg(test)]
 mod plain;
