@@ -7,9 +7,9 @@ use Rattle.ring_core.specs.Coeffs.{coeff, are_elems, first_values}
 use Rattle.ring_core.proofs.Carrier.{RingOn, Element, same_element, elements, add_zero, zero_mul, mul_zero, neg_add, zero_only}
 use Rattle.ring_core.proofs.Coefficients.{coeff_past, elem_read, elems-first_values}
 use Rattle.ring_core.proofs.FirstValues.{length-first_values, at-first_values}
+use Rattle.ring_core.proofs.Twist.{square_only}
 use Rattle.linear_algebra.proofs.Sums.{total, combine, total_same, total_zero, total_add, total_rest}
 use Rattle.linear_algebra.proofs.Augment.{Depends, zero_from}
-use Rattle.fq_linear.proofs.Solutions.{inverse}
 
 -- `embed` takes the base `S` into `R`; the coordinates over `S` are linear and tell the elements of `R` apart.
 pub record IsOver {M N : Type 0} (S : RingOn M) (R : RingOn N) (embed : M → N) (coord : N → ℕ → M) : Type 0 where
@@ -70,15 +70,6 @@ module _ {M N : Type 0} (S : RingOn M) (R : RingOn N) (embed : M → N) (coord :
       sym (add_zero R (weighted R embed p n d)) ∙ ap (R.add (weighted R embed p n d)) (sym right) ∙ sym (weighted_add n d b)
       ∙ total_same R n _ _ (λ i l. ap (λ x. R.mul (embed x) (p i)) (is i)) ∙ left
 
--- an element that is its own square, and has an inverse, is one
-one_only : {M : Type 0} (R : RingOn M) (a : M) → R.mul a a ≡ a → (a ≡ R.zero → ⊥) → (a ≡ R.zero) ⊎ ((b : M) × (R.mul b a ≡ R.one)) → a ≡ R.one
-one_only R a square nonzero inverses =
-    ⊎_elim
-    (λ none. absurd (nonzero none))
-    (λ s.
-    sym (R.one_mul a) ∙ ap (λ x. R.mul x a) (sym s.1) ∙ R.mul_assoc s.0 a a ∙ ap (R.mul s.0) square ∙ s.1)
-    inverses
-
 module _ {E B : Type 0} (r : RingOps E) (inv : E → Option E) (base : RingOps B) (base_inv : B → Option B) (f : FrobOps E B) (k : IsField r inv) (kb : IsField base base_inv) (l : IsFrobField r base f) where
   -- The elements of the base as elements of the field.
   abbrev pub embedded : Element base → Element r
@@ -134,17 +125,16 @@ module _ {E B : Type 0} (r : RingOps E) (inv : E → Option E) (base : RingOps B
 
   embedded-one : embedded (elements kb.ring).one ≡ (elements k.ring).one
   embedded-one =
-      let R = elements k.ring in
       let closed = kb.ring.closed in
-      let one = embedded (elements kb.ring).one in
-      one_only R one
-      (same_element r (R.mul one one) one
-      (sym (l.embed_mul base.one base.one closed.one_in closed.one_in) ∙ ap f.embed (kb.ring.one_mul base.one closed.one_in)))
+      let inside = l.embed_in base.one closed.one_in in
+      same_element r _ _
+      (square_only r inv base f k l (f.embed base.one) inside
+      (sym (l.embed_mul base.one base.one closed.one_in closed.one_in) ∙ ap f.embed (kb.ring.one_mul base.one closed.one_in))
       (λ e.
       kb.one_ne_zero
       (l.embed_inj base.one base.zero closed.one_in closed.zero_in
-      (ap (λ x. x.0) (e ∙ sym (additive_zero (elements kb.ring) R embedded embedded-add)))))
-      (inverse r inv k one)
+      (e ∙ sym (ap (λ x. x.0) (additive_zero (elements kb.ring) (elements k.ring) embedded embedded-add)))))
+      (inv (f.embed base.one)) (k.inv_is (f.embed base.one) inside))
 
   pub is_over : IsOver (elements kb.ring) (elements k.ring) embedded coords
   is_over = record {

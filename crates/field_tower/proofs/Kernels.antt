@@ -1,5 +1,5 @@
 -- The kernel of a linear map of residues, from the relations of the rows of its coefficients.
-use Rattle.std.proofs.Common.{◌≡◌, ℕ, suc, ◌+◌, ◌-◌, ◌<◌, ◌≤◌, inl, inr, Bool, true, false, List, length, get_or, sym, refl, ap, ap₂, subst, ◌∙◌, arith, eq-eqb, [], ◌∷◌, ◌++◌, zero, take, get_or-take, Option, Some, None, MatchOption, nat_eq, cond}
+use Rattle.std.proofs.Common.{◌≡◌, ℕ, suc, ◌+◌, ◌-◌, ◌<◌, ◌≤◌, inl, inr, Bool, true, false, List, length, get_or, sym, refl, ap, ap₂, subst, ◌∙◌, arith, eq-eqb, [], ◌∷◌, zero, take, get_or-take, Option, Some, None, MatchOption, nat_eq, cond}
 use Rattle.std.proofs.lemmas.List.{length-take-le}
 use Rattle.std.proofs.lemmas.Bool.{and_from, cases_lt, cond_both}
 use Rattle.ring_core.specs.Ring.{RingOps, IsElem, IsRing}

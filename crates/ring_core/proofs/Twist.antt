@@ -102,7 +102,7 @@ module _ {E : Type 0} (r : RingOps E) (h : IsRing r) (frob : E → ℕ → E) (t
 -- The Frobenius of a field is a twist.
 module _ {E B : Type 0} (r : RingOps E) (inv : E → Option E) (base : RingOps B) (f : FrobOps E B) (k : IsField r inv) (l : IsFrobField r base f) where
   -- an element that is its own square is zero or one
-  square_only : (a : E) → IsElem r a → r.mul a a ≡ a → a ≢ r.zero → (o : Option E) → MatchOption o (a ≡ r.zero) (λ b. IsElem r b × (r.mul a b ≡ r.one)) → a ≡ r.one
+  pub square_only : (a : E) → IsElem r a → r.mul a a ≡ a → a ≢ r.zero → (o : Option E) → MatchOption o (a ≡ r.zero) (λ b. IsElem r b × (r.mul a b ≡ r.one)) → a ≡ r.one
   square_only a p e nonzero None inverse = absurd (nonzero inverse)
   square_only a p e nonzero (Some b) inverse =
       let ring = k.ring in
