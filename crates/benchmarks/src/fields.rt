@@ -122,6 +122,16 @@ fn print_times(rt: &HostRuntime, s: u32, modulus: &[u32], middle: usize) -> io::
         product_time.as_nanos() / CALLS as u128,
         power_time.as_nanos() / CALLS as u128
     )?;
+    let start = Instant::now(rt)?;
+    let Ok(polynomial) = k.min_poly(rt.alloc(), z) else {
+        return Err(no_memory());
+    };
+    let polynomial_time = start.elapsed(rt)?;
+    println!(rt;
+        "  Tower::min_poly of the letter {} us, {} coefficients",
+        polynomial_time.as_micros(),
+        polynomial.len()
+    )?;
     // what was computed is used
     println!(rt; "  equal: {}", k.equal(product, power))
 }
