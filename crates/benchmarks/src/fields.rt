@@ -95,13 +95,35 @@ fn first_top(rt: &HostRuntime, s: u32, modulus: &[u32], middle: usize) -> io::Re
     Err(io::Error::from(io::ErrorKind::InvalidData))
 }
 
+/// What the call takes that refuses `a^s` as the modulus of a base over two elements.
+fn refused_base(rt: &HostRuntime, s: u32, modulus: &[u32]) -> io::Result<Duration> {
+    let mut list = Vec::from_slice(rt.alloc(), modulus)?;
+    for i in 0..s as usize {
+        if let Some(place) = list.get_mut(i) {
+            *place = 0;
+        }
+    }
+    let start = Instant::now(rt)?;
+    let made = BaseField::make(rt.alloc(), 2, s, &list);
+    let time = start.elapsed(rt)?;
+    if made.is_ok() && 1 < s {
+        return Err(io::Error::from(io::ErrorKind::InvalidData));
+    }
+    Ok(time)
+}
+
 /// Prints the times of the calls of a top field of degree `WIDTH` over the residues modulo 2 and this
 /// modulus of degree `s`.
 fn print_times(rt: &HostRuntime, s: u32, modulus: &[u32], middle: usize) -> io::Result<()> {
     let made = first_top(rt, s, modulus, middle)?;
     let k = &made.tower;
     println!(rt; "{} elements, degree {WIDTH}", k.base().q())?;
-    println!(rt; "  BaseField::make {} us", made.base.as_micros())?;
+    let refused = refused_base(rt, s, modulus)?;
+    println!(rt;
+        "  BaseField::make accepted {} us, modulo a^{s} {} us",
+        made.base.as_micros(),
+        refused.as_micros()
+    )?;
     println!(rt;
         "  Tower::make accepted {} us, refused {} us",
         made.accepted.as_micros(),

@@ -1,6 +1,7 @@
-//! How long the kernel of a linear system takes, and how many products of the field it makes; and what
-//! the calls of fields take. With the word `linear` two large systems are measured, with the word `fields`
-//! the fields; with no word small systems, whose products are compared with a bound.
+//! How long the kernel of a linear system takes, and how many products of the field it makes; what the
+//! calls of fields take; and how long the reader of scripts takes. With the word `linear` two large systems
+//! are measured, with `fields` the fields, with `parse` the script on standard input; with no word small
+//! systems and products, whose counts are compared with a bound.
 #![tactic(auto)]
 
 ghost use Rattle.std.specs.Prelude.{◌≡◌, ◌<◌, true};
@@ -9,6 +10,7 @@ ghost use Rattle.linear_algebra.specs.Linear.{are_rows};
 mod counting;
 mod fields;
 mod random;
+mod scripts;
 
 use counting::counting;
 use field_tower::{BaseField, multiply};
@@ -67,14 +69,17 @@ fn measure<K: Field>(rt: &HostRuntime, field: &K, rows: &Rows<E<K>>) -> io::Resu
     })
 }
 
-/// The products of the field that a product of two residues makes, modulo a polynomial of degree `n`; all
-/// their coefficients are `c`.
+/// The products of the field that a product of two residues makes, modulo a monic polynomial of degree `n`;
+/// all other coefficients are `c`.
 fn residue_products<K: Field>(rt: &HostRuntime, field: &K, c: E<K>, n: usize) -> io::Result<u64>
     requires { 0 < n }
 {
     let alloc = rt.alloc();
     let counting_field = counting(field);
-    let modulus = vec![in alloc; c; n.saturating_add(1)]?;
+    let mut modulus = vec![in alloc; c; n.saturating_add(1)]?;
+    if let Some(top) = modulus.last_mut() {
+        *top = field.one();
+    }
     let a = vec![in alloc; c; n]?;
     let mut out = vec![in alloc; c; n]?;
     if !all_elems(&counting_field, &modulus)
@@ -168,6 +173,10 @@ fn run(rt: &HostRuntime) -> io::Result<bool> {
         Some(word) if word.as_str() == "linear" => large(rt),
         Some(word) if word.as_str() == "fields" => {
             fields::print_all(rt, &BITS, &BYTES)?;
+            Ok(true)
+        }
+        Some(word) if word.as_str() == "parse" => {
+            scripts::print_parse(rt)?;
             Ok(true)
         }
         Some(_) => Ok(false),

@@ -2,13 +2,10 @@
 //! output and a fault's line to standard error, and ends with the status of the run.
 #![tactic(auto)]
 
-use drinfeld_cli::run;
+use drinfeld_cli::{Status, run};
 use std::process::ExitCode;
 use std::{env, io};
 use text_io::{StdSink, StdSource};
-
-/// The exit status where memory is refused while the words are taken, as that of a run.
-const NO_MEMORY: u8 = 6;
 
 /// The exit status where the system gives no words for another cause. No run ends with it.
 const NO_WORDS: u8 = 10;
@@ -17,7 +14,7 @@ fn main(rt: HostRuntime) -> ExitCode {
     let words = match words_of_command(&rt) {
         Ok(words) => words,
         Err(error) if error.kind() == io::ErrorKind::OutOfMemory => {
-            return ExitCode::from(NO_MEMORY);
+            return ExitCode::from(Status::NoMemory.code());
         }
         Err(_) => return ExitCode::from(NO_WORDS),
     };

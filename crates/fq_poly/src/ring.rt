@@ -39,13 +39,6 @@ impl<'f, F: Field> PolyRing<'f, F> {
         PolyRing { field }
     }
 
-    /// The field of the coefficients.
-    pub fn field(&self) -> &F
-        ensures { result.now ≡ self.now }
-    {
-        self.field
-    }
-
     /// The polynomial with these coefficients, lowest first, without the zeros at the top.
     pub fn make(&self, alloc: Global, list: &[E<F>]) -> Result<Poly<E<F>>, NoMemory>
         requires { are_elems (F.ops self.now) list.now ≡ true }

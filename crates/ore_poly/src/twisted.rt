@@ -94,13 +94,6 @@ impl<'k, K: FrobField> OreRing<'k, K> {
         OreRing { field }
     }
 
-    /// The field of the coefficients.
-    pub fn field(&self) -> &K
-        ensures { result.now ≡ self.now }
-    {
-        self.field
-    }
-
     /// The twisted polynomial with these coefficients, lowest first, without the zeros at the top.
     pub fn make(&self, alloc: Global, list: &[E<K>]) -> Result<Ore<E<K>>, NoMemory>
         requires { are_elems (K.ops self.now) list.now ≡ true }
