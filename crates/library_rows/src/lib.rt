@@ -9,6 +9,8 @@ mod fields;
 #[cfg(test)]
 mod polynomials;
 #[cfg(test)]
+mod products;
+#[cfg(test)]
 mod ring_calls;
 #[cfg(test)]
 mod twisted;
