@@ -3,9 +3,9 @@
 -- elements `c` that the power `q` fixes, and an element that it fixes beside them gives two nonzero
 -- elements that multiply to zero.
 use Rattle.std.proofs.Common.{◌≡◌, ◌≢◌, ℕ, zero, suc, ◌<◌, ◌≤◌, ◌⊎◌, inl, inr, sym, ◌∙◌, ap, ap₂, refl, arith}
-use Rattle.ring_core.proofs.Carrier.{RingOn, add_zero, mul_neg, neg_add}
+use Rattle.ring_core.proofs.Carrier.{RingOn, add_zero, mul_neg, neg_add, minus_same}
 use Rattle.finite_ring.proofs.Powers.{power, mul_swap}
-use Rattle.finite_ring.proofs.Counted.{NoPair, difference_zero}
+use Rattle.finite_ring.proofs.Counted.{NoPair}
 
 -- `x - c`
 abbrev pub minus : {M : Type 0} → RingOn M → M → M → M
@@ -152,7 +152,7 @@ module _ {M : Type 0} (R : RingOn M) (dec : (x : M) → (x ≡ R.zero) ⊎ (x �
         p.0,
         p.1,
         elim (dec (minus R x (c p.0))) [
-          | inl d ↦ difference_zero R x (c p.0) d
+          | inl d ↦ minus_same R x (c p.0) d
           | inr nd ↦ absurd (no_pair (falling R c p.0 x) (minus R x (c p.0)) p.2 nd p.3)
         ],
       )
