@@ -1,7 +1,7 @@
 -- A finite commutative ring over constants is accepted as a field where only zero has the power `q` zero,
 -- and the power `q` fixes only constants. There each nonzero element has an inverse, so no two nonzero
 -- elements multiply to zero.
-use Rattle.std.proofs.Common.{◌≡◌, ◌≢◌, ℕ, zero, suc, ◌+◌, ◌-◌, ◌<◌, ◌≤◌, ◌⊎◌, inl, inr, sym, ◌∙◌, ap, subst, arith}
+use Rattle.std.proofs.Common.{◌≡◌, ◌≢◌, ℕ, zero, suc, ◌+◌, ◌-◌, ◌<◌, ◌≤◌, sym, ◌∙◌, ap, subst, arith}
 use Rattle.ring_core.proofs.Carrier.{RingOn, zero_mul, mul_zero}
 use Rattle.finite_ring.proofs.Powers.{power, power-one, power-two, power-add}
 use Rattle.finite_ring.proofs.Counted.{IsCounted, NoPair, idempotent}

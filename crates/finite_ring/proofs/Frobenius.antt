@@ -1,6 +1,6 @@
 -- Finite fields over finite fields, with the power `q` of the smaller one. The constants are given by a
 -- one to one map of rings, so that all layers use the same facts.
-use Rattle.std.proofs.Common.{◌≡◌, ◌≢◌, ℕ, zero, suc, ◌+◌, ◌-◌, ◌*◌, ◌^◌, ◌<◌, ◌≤◌, ◌⊎◌, sym, ◌∙◌, ap, ap₂, pow-suc, mul-zero, mul-suc, arith}
+use Rattle.std.proofs.Common.{◌≡◌, ◌≢◌, ℕ, zero, suc, ◌+◌, ◌-◌, ◌*◌, ◌^◌, ◌<◌, ◌≤◌, sym, ◌∙◌, ap, ap₂, pow-suc, mul-zero, mul-suc, arith}
 use native.Mathlib.Nat.{pow-zero, pow-succ'}
 use Rattle.std.proofs.lemmas.Nat.{pow-add}
 use Rattle.ring_core.proofs.Carrier.{RingOn, add_zero, add_cancel, neg_only, mul_zero, minus_same}
@@ -8,7 +8,7 @@ use Rattle.finite_ring.proofs.Powers.{power, power-one, power-power, power-produ
 use Rattle.finite_ring.proofs.Counted.{IsCounted, NoPair, cases_same, mul_cancel}
 use Rattle.finite_ring.proofs.Fermat.{count_fixes, count_large, power_count}
 use Rattle.finite_ring.proofs.Accept.{accepted_no_pair}
-use Rattle.finite_ring.proofs.Roots.{minus, falling, AreApart, fixed_falls, factor_pair, root_among}
+use Rattle.finite_ring.proofs.Roots.{minus, AreApart, fixed_falls, root_among}
 use Rattle.finite_ring.proofs.Freshman.{HasFreshRow, ones, frob_sum}
 
 pow-pow : (p s i : ℕ) → (p ^ s) ^ i ≡ p ^ (s * i)
