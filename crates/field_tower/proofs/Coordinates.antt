@@ -8,7 +8,8 @@ use Rattle.ring_core.proofs.Carrier.{RingOn, Element, same_element, elements, ad
 use Rattle.ring_core.proofs.Coefficients.{coeff_past, elem_read, elems-first_values}
 use Rattle.ring_core.proofs.FirstValues.{length-first_values, at-first_values}
 use Rattle.ring_core.proofs.Twist.{square_only}
-use Rattle.linear_algebra.proofs.Sums.{total, combine, total_same, total_zero, total_add, total_rest}
+use Rattle.ring_core.proofs.Series.{total}
+use Rattle.linear_algebra.proofs.Sums.{combine, total_same, total_zero, total_add, total_rest}
 use Rattle.linear_algebra.proofs.Augment.{Depends, zero_from}
 
 -- `embed` takes the base `S` into `R`; the coordinates over `S` are linear and tell the elements of `R` apart.

@@ -7,7 +7,7 @@ use Rattle.ring_core.specs.Ring.{IsElem}
 use Rattle.ring_core.specs.Coeffs.{coeff, are_elems, first_values}
 use Rattle.ring_core.specs.Powers.{power_of}
 use Rattle.ring_core.proofs.Twist.{sum_same}
-use Rattle.finite_ring.proofs.FieldOf.{power_in}
+use Rattle.ring_core.proofs.PowerLaws.{power_in}
 use Rattle.residue_field.specs.declared.TopElem.{TopElem}
 use Rattle.residue_field.specs.Residue.{residue_unit}
 use Rattle.residue_field.specs.TopElem.{top_places}

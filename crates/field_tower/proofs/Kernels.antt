@@ -17,7 +17,7 @@ use Rattle.residue_field.specs.declared.TheConstants.{WIDTH}
 use Rattle.residue_field.specs.Residue.{IsPlaces, residue_unit}
 use Rattle.residue_field.specs.TopElem.{top_places}
 use Rattle.residue_field.proofs.Acceptance.{power_places, moved_places}
-use Rattle.finite_ring.proofs.FieldOf.{power_in}
+use Rattle.ring_core.proofs.PowerLaws.{power_in}
 use Rattle.field_tower.specs.Places.{IsModulus, IsStored, stored, stored_ops}
 use Rattle.field_tower.specs.Constants.{IsFieldOfCodes}
 use Rattle.field_tower.specs.Kernel.{image_of, letter_power, image_row, row_residue, AreLow, IsAbove, HasLowKernel, IsInKernel}

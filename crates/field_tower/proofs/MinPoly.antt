@@ -9,17 +9,18 @@ use Rattle.ring_core.specs.Field.{IsField, FrobOps, IsFrobField}
 use Rattle.ring_core.specs.Coeffs.{coeff, trim, are_elems, is_trimmed, is_canonical, first_values}
 use Rattle.ring_core.specs.Powers.{power_of}
 use Rattle.ring_core.specs.Twisted.{list_add, list_neg}
-use Rattle.ring_core.proofs.Carrier.{RingOn, Element, same_element, elements}
+use Rattle.ring_core.proofs.Carrier.{RingOn, Element, same_element, elements, minus_same}
 use Rattle.ring_core.proofs.Coefficients.{coeff_past, elems_push, elems-first_values, trim_found, trimmed-trim, same_coeffs}
 use Rattle.ring_core.proofs.Degrees.{top_nonzero}
+use Rattle.ring_core.proofs.Twist.{total_is}
 use Rattle.ring_core.proofs.ListRing.{value, add_in, neg_in, coeff-add, coeff-neg}
 use Rattle.ring_core.proofs.PowerLaws.{power_in}
 use Rattle.ring_core.proofs.FirstValues.{length-first_values, at-first_values}
 use Rattle.linear_algebra.specs.Linear.{row_at, entry, is_row, are_rows, IsIndependent, IsFirstDependence}
 use Rattle.linear_algebra.proofs.Sums.{combine}
-use Rattle.linear_algebra.proofs.Spans.{minus_plus, minus_same}
+use Rattle.linear_algebra.proofs.Spans.{minus_plus}
 use Rattle.linear_algebra.proofs.Augment.{Depends}
-use Rattle.linear_algebra.proofs.Lift.{total_value, combine_value, combined_rows, from_spans, combines_as, combines_rows}
+use Rattle.linear_algebra.proofs.Lift.{combine_value, combined_rows, from_spans, combines_as, combines_rows}
 use Rattle.linear_algebra.proofs.RowLists.{row_len, row_elems, rows_by_places}
 use Rattle.linear_algebra.proofs.Dependent.{rows_depend}
 use Rattle.fq_linear.proofs.Solutions.{inverse}
@@ -73,7 +74,7 @@ module _ {E B : Type 0} (r : RingOps E) (inv : E → Option E) (base : RingOps B
   sum n u = weighted R (embedded r inv base base_inv f k kb l) powers n u
 
   sum_is : (a : List B) (e : are_elems base a ≡ true) → (sum (length a) (value base kb.ring a e)).0 ≡ base_value r base f.embed a x
-  sum_is a e = total_value r k.ring (length a) (λ i. R.mul (embedded r inv base base_inv f k kb l (value base kb.ring a e i)) (powers i))
+  sum_is a e = total_is r k.ring (length a) (λ i. R.mul (embedded r inv base base_inv f k kb l (value base kb.ring a e i)) (powers i))
 
   sum_of_root : (a : List B) (e : are_elems base a ≡ true) → base_value r base f.embed a x ≡ r.zero → sum (length a) (value base kb.ring a e) ≡ R.zero
   sum_of_root a e root = same_element r _ _ (sum_is a e ∙ root)

@@ -3,10 +3,9 @@ use Rattle.std.proofs.Common.{inl, inr, ◌≡◌, ◌≢◌, ℕ, zero, suc, �
 use Rattle.ring_core.specs.Ring.{RingOps, IsElem, IsRing}
 use Rattle.ring_core.specs.Coeffs.{coeff}
 use Rattle.ring_core.specs.Powers.{power_of}
-use Rattle.ring_core.proofs.Carrier.{Element, elements, same_element}
+use Rattle.ring_core.proofs.Carrier.{Element, elements, same_element, minus_same}
 use Rattle.finite_ring.specs.Finite.{HasNoPair, root_product}
-use Rattle.finite_ring.proofs.Counted.{difference_zero}
-use Rattle.finite_ring.proofs.FieldOf.{power_in}
+use Rattle.ring_core.proofs.PowerLaws.{power_in}
 use Rattle.std.proofs.lemmas.Bool.{cases_lt}
 use Rattle.residue_field.specs.declared.TopElem.{TopElem}
 use Rattle.residue_field.specs.Residue.{constant_at, IsPlaces}
@@ -83,7 +82,7 @@ module _ (r : RingOps ℕ) (q : ℕ) (codes : IsFieldOfCodes r q) (modulus : Lis
       let R = elements ring in
       let u : Element (stored_ops r modulus) = (x, e) in
       let v : Element (stored_ops r modulus) = ((top_places r d).pack (constant_at r b), constant_in r codes.ring codes.commutes modulus monic b c) in
-      let same : x ≡ v.0 = ap (λ z. z.0) (difference_zero R u v (same_element (stored_ops r modulus) _ _ none)) in
+      let same : x ≡ v.0 = ap (λ z. z.0) (minus_same R u v (same_element (stored_ops r modulus) _ _ none)) in
       high (subst (IsLow r 1) (sym same) (constant_low b c))
 
   -- the power q less x is zero exactly where the power q is x
@@ -98,7 +97,7 @@ module _ (r : RingOps ℕ) (q : ℕ) (codes : IsFieldOfCodes r q) (modulus : Lis
       let t = stored_ops r modulus in
       let u : Element t = (power_of t x q, power_in t ring x q e) in
       let v : Element t = (x, e) in
-      ap (λ z. z.0) (difference_zero (elements ring) u v (same_element t _ _ none))
+      ap (λ z. z.0) (minus_same (elements ring) u v (same_element t _ _ none))
 
   -- where only zero has the power zero, and only constants are fixed, no two nonzero residues multiply to zero
   pub accepted : HasLowKernel r q modulus false 0 → HasLowKernel r q modulus true 1 → HasNoPair (stored_ops r modulus)

@@ -1,7 +1,7 @@
 -- A finite commutative ring over constants is accepted as a field where only zero has the power `q` zero,
--- and the power `q` fixes only constants. Where it is, no two nonzero elements multiply to zero; where
--- the first fails, such a pair stands among the powers of an element.
-use Rattle.std.proofs.Common.{◌≡◌, ◌≢◌, ℕ, zero, suc, ◌+◌, ◌-◌, ◌<◌, ◌≤◌, ◌⊎◌, inl, inr, sym, ◌∙◌, ap, subst, arith}
+-- and the power `q` fixes only constants. There each nonzero element has an inverse, so no two nonzero
+-- elements multiply to zero.
+use Rattle.std.proofs.Common.{◌≡◌, ◌≢◌, ℕ, zero, suc, ◌+◌, ◌-◌, ◌<◌, ◌≤◌, sym, ◌∙◌, ap, subst, arith}
 use Rattle.ring_core.proofs.Carrier.{RingOn, zero_mul, mul_zero}
 use Rattle.finite_ring.proofs.Powers.{power, power-one, power-two, power-add}
 use Rattle.finite_ring.proofs.Counted.{IsCounted, NoPair, idempotent}
@@ -27,19 +27,6 @@ module _ {M : Type 0} (R : RingOn M) where
   idempotent_fixed : (e : M) → R.mul e e ≡ e → (k : ℕ) → power R e (suc k) ≡ e
   idempotent_fixed e same zero = power-one R e
   idempotent_fixed e same (suc k) = ap (λ y. R.mul y e) (idempotent_fixed e same k) ∙ same
-
-  -- A nonzero x with x^k = 0 is half of a pair, whose other half is a lower power of x.
-  pub power_pair : ((x : M) → (x ≡ R.zero) ⊎ (x ≢ R.zero)) → (k : ℕ) (x : M) → x ≢ R.zero → power R x k ≡ R.zero
-      → (j : ℕ) × (j < k) × (power R x j ≢ R.zero) × (R.mul (power R x j) x ≡ R.zero)
-  power_pair dec zero x nx e = absurd (nx (sym (R.one_mul x) ∙ ap (λ y. R.mul y x) e ∙ zero_mul R x))
-  power_pair dec (suc k) x nx e =
-      elim (dec (power R x k)) [
-        | inl d ↦
-            let p = power_pair dec k x nx d in
-            let l : p.0 < k = p.1 in
-            (p.0, omega arith, p.2, p.3)
-        | inr nd ↦ (k, omega arith, nd, e)
-      ]
 
 module _ {M : Type 0} (R : RingOn M) (comm : (a b : M) → R.mul a b ≡ R.mul b a) (count : ℕ) (fin : IsCounted R count)
     (q : ℕ) (IsConst : M → Type 0) (h : IsAccepted R q IsConst) where

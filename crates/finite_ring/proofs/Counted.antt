@@ -3,7 +3,7 @@
 use Rattle.std.proofs.Common.{◌≡◌, ◌≢◌, ℕ, zero, suc, ◌+◌, ◌-◌, ◌*◌, ◌<◌, ◌≤◌, ◌⊎◌, inl, inr, sym, ◌∙◌, ap, arith}
 use Rattle.std.proofs.lemmas.Bool.{cases_eq}
 use Rattle.ring_core.specs.Ring.{RingOps, IsRing}
-use Rattle.ring_core.proofs.Carrier.{RingOn, elements, same_element, mul_neg, neg_neg, neg_only}
+use Rattle.ring_core.proofs.Carrier.{RingOn, elements, same_element, mul_neg, minus_same}
 use Rattle.finite_ring.specs.Finite.{HasNoPair, IsNumbered}
 use Rattle.finite_ring.proofs.Pigeon.{pigeon}
 use Rattle.finite_ring.proofs.Powers.{power, power-add}
@@ -37,12 +37,6 @@ no_pair_on r h no_pair a b na nb e =
     no_pair a.0 b.0 a.1 b.1 (λ d. na (same_element r a (elements h).zero d)) (λ d. nb (same_element r b (elements h).zero d))
     (ap (λ x. x.0) e)
 
-module _ {M : Type 0} (R : RingOn M) where
-  -- a - b = 0 only where a = b
-  pub difference_zero : (a b : M) → R.add a (R.neg b) ≡ R.zero → a ≡ b
-  difference_zero a b e =
-      sym (neg_neg R a) ∙ sym (ap R.neg (neg_only R a (R.neg b) e)) ∙ neg_neg R b
-
 module _ {M : Type 0} (R : RingOn M) (count : ℕ) (fin : IsCounted R count) where
   pub same_index : (x y : M) → fin.index x ≡ fin.index y → x ≡ y
   same_index x y e = sym (fin.nth_index x) ∙ ap fin.nth e ∙ fin.nth_index y
@@ -58,7 +52,7 @@ module _ {M : Type 0} (R : RingOn M) (count : ℕ) (fin : IsCounted R count) whe
   pub mul_cancel : NoPair R → (a b c : M) → a ≢ R.zero → R.mul a b ≡ R.mul a c → b ≡ c
   mul_cancel no_pair a b c ne e =
       elim (cases_same (R.add b (R.neg c)) R.zero) [
-        | inl d ↦ difference_zero R b c d
+        | inl d ↦ minus_same R b c d
         | inr nd ↦
             absurd (no_pair a (R.add b (R.neg c)) ne nd
             (R.mul_add a b (R.neg c) ∙ ap (λ x. R.add x (R.mul a (R.neg c))) e ∙ ap (R.add (R.mul a c)) (mul_neg R a c)

@@ -5,10 +5,11 @@ use native.Mathlib.Nat.{pow-zero}
 use Rattle.ring_core.specs.Ring.{RingOps, IsElem, IsRing, IsCommutative}
 use Rattle.ring_core.specs.Powers.{power_of}
 use Rattle.ring_core.proofs.Carrier.{Element, elements, same_element}
+use Rattle.ring_core.proofs.PowerLaws.{power_in}
 use Rattle.finite_ring.specs.Finite.{HasNoPair, root_product, IsEmbedding, IsPowerFrob, IsPowerLinear}
 use Rattle.finite_ring.proofs.Powers.{power, power_value}
 use Rattle.finite_ring.proofs.Counted.{IsCounted, NoPair, no_pair_on}
-use Rattle.finite_ring.proofs.FieldOf.{commute_on, power_in}
+use Rattle.finite_ring.proofs.FieldOf.{commute_on}
 use Rattle.finite_ring.proofs.Roots.{falling, fixed_falls}
 use Rattle.finite_ring.proofs.Freshman.{HasFreshRow, ones}
 use Rattle.finite_ring.proofs.Frobenius.{IsFiniteField, IsRingMap, large_base, up_fixed, points, points_apart, frob_add, frob_zero, frob_plus, frob_mul, frob_up, power_add, power_scale, accepted_over, frob_degree, only_up, frob_inj, field_over}

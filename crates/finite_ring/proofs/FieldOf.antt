@@ -1,13 +1,14 @@
 -- A finite commutative ring with two elements at least, in which no two nonzero elements multiply to
 -- zero, is a field, and its inverses are powers.
-use Rattle.std.proofs.Common.{◌≡◌, ◌≢◌, ℕ, zero, suc, ◌-◌, ◌<◌, ◌≤◌, ◌⊎◌, inl, inr, Bool, true, false, cond, Option, Some, None, MatchOption, sym, ◌∙◌, ap, subst, refl, true≢false, arith}
+use Rattle.std.proofs.Common.{◌≡◌, ◌≢◌, ℕ, zero, suc, ◌-◌, ◌<◌, ◌≤◌, ◌⊎◌, inl, inr, Bool, true, false, cond, Option, Some, None, MatchOption, sym, ◌∙◌, ap, refl, true≢false, arith}
 use Rattle.ring_core.specs.Ring.{RingOps, IsElem, IsRing, IsCommutative}
 use Rattle.ring_core.specs.Field.{IsField}
 use Rattle.ring_core.specs.Powers.{power_of}
-use Rattle.ring_core.proofs.Carrier.{RingOn, Element, elements, same_element, mul_zero}
+use Rattle.ring_core.proofs.Carrier.{RingOn, Element, elements, same_element, mul_zero, minus_same}
+use Rattle.ring_core.proofs.PowerLaws.{power_in}
 use Rattle.finite_ring.specs.Finite.{HasNoPair, inverse_by_power, root_product, IsNumbered}
-use Rattle.finite_ring.proofs.Powers.{power, power_value}
-use Rattle.finite_ring.proofs.Counted.{IsCounted, NoPair, counted_of, no_pair_on, difference_zero}
+use Rattle.finite_ring.proofs.Powers.{power_value}
+use Rattle.finite_ring.proofs.Counted.{IsCounted, NoPair, counted_of, no_pair_on}
 use Rattle.finite_ring.proofs.Fermat.{power_count, count_large}
 use Rattle.finite_ring.proofs.Roots.{minus, falling, product_of_roots}
 use Rattle.std.proofs.lemmas.Bool.{cases_Bool}
@@ -15,10 +16,6 @@ use Rattle.std.proofs.lemmas.Bool.{cases_Bool}
 -- The products of elements commute as those of the ring do.
 pub commute_on : {E : Type 0} (r : RingOps E) (h : IsRing r) → IsCommutative r → (a b : Element r) → (elements h).mul a b ≡ (elements h).mul b a
 commute_on r h commutes a b = same_element r _ _ (commutes a.0 b.0 a.1 b.1)
-
--- a power of an element is an element
-pub power_in : {E : Type 0} (r : RingOps E) (h : IsRing r) (a : E) (k : ℕ) → IsElem r a → IsElem r (power_of r a k)
-power_in r h a k p = subst (IsElem r) (power_value r h (a, p) k) ((power (elements h) (a, p) k).1)
 
 match_cond : {E : Type 0} (b : Bool) (y : E) (P : Type 0) (Q : E → Type 0) → (b ≡ true → P) → (b ≡ false → Q y)
     → MatchOption (cond b None (Some y)) P Q
@@ -87,7 +84,7 @@ product_of_fixed {E} r inv h q large c c_in distinct fixed x p =
       | inl z ↦ z
       | inr nu ↦
           absurd (no_pair (minus R (points j) (points i)) u
-          (λ d. distinct i j l m (ap (λ y. y.0) (sym (difference_zero R (points j) (points i) d)))) nu e)
+          (λ d. distinct i j l m (ap (λ y. y.0) (sym (minus_same R (points j) (points i) d)))) nu e)
     ])
     (λ j l. same_element r _ _ (power_value r h.ring (points j) q ∙ fixed j l)) (x, p))
     ∙ falls q

@@ -1,14 +1,14 @@
 -- Finite fields over finite fields, with the power `q` of the smaller one. The constants are given by a
 -- one to one map of rings, so that all layers use the same facts.
-use Rattle.std.proofs.Common.{◌≡◌, ◌≢◌, ℕ, zero, suc, ◌+◌, ◌-◌, ◌*◌, ◌^◌, ◌<◌, ◌≤◌, ◌⊎◌, sym, ◌∙◌, ap, ap₂, pow-suc, mul-zero, mul-suc, arith}
+use Rattle.std.proofs.Common.{◌≡◌, ◌≢◌, ℕ, zero, suc, ◌+◌, ◌-◌, ◌*◌, ◌^◌, ◌<◌, ◌≤◌, sym, ◌∙◌, ap, ap₂, pow-suc, mul-zero, mul-suc, arith}
 use native.Mathlib.Nat.{pow-zero, pow-succ'}
 use Rattle.std.proofs.lemmas.Nat.{pow-add}
-use Rattle.ring_core.proofs.Carrier.{RingOn, add_zero, add_cancel, neg_only, mul_zero}
+use Rattle.ring_core.proofs.Carrier.{RingOn, add_zero, add_cancel, neg_only, mul_zero, minus_same}
 use Rattle.finite_ring.proofs.Powers.{power, power-one, power-power, power-product}
-use Rattle.finite_ring.proofs.Counted.{IsCounted, NoPair, cases_same, difference_zero, mul_cancel}
+use Rattle.finite_ring.proofs.Counted.{IsCounted, NoPair, cases_same, mul_cancel}
 use Rattle.finite_ring.proofs.Fermat.{count_fixes, count_large, power_count}
 use Rattle.finite_ring.proofs.Accept.{accepted_no_pair}
-use Rattle.finite_ring.proofs.Roots.{minus, falling, AreApart, fixed_falls, factor_pair, root_among}
+use Rattle.finite_ring.proofs.Roots.{minus, AreApart, fixed_falls, root_among}
 use Rattle.finite_ring.proofs.Freshman.{HasFreshRow, ones, frob_sum}
 
 pow-pow : (p s i : ℕ) → (p ^ s) ^ i ≡ p ^ (s * i)
@@ -94,7 +94,7 @@ module _ {B M : Type 0} (K : RingOn B) (R : RingOn M) (up : B → M) (h : IsRing
       up_cancel (minus K (k.counted.nth j) (k.counted.nth i))
       (λ d.
       let same : j ≡ i =
-      sym (k.counted.index_nth j m) ∙ ap k.counted.index (difference_zero K (k.counted.nth j) (k.counted.nth i) d)
+      sym (k.counted.index_nth j m) ∙ ap k.counted.index (minus_same K (k.counted.nth j) (k.counted.nth i) d)
       ∙ k.counted.index_nth i (omega arith) in
       absurd (omega arith))
       u (ap (λ x. R.mul x u) (up-minus K R up h (k.counted.nth j) (k.counted.nth i)) ∙ e)
@@ -131,14 +131,6 @@ module _ {B M : Type 0} (K : RingOn B) (R : RingOn M) (up : B → M) (h : IsRing
 
   pub power_scale : (b : B) (x : M) → power R (R.mul (up b) x) q ≡ R.mul (up b) (power R x q)
   power_scale b x = power-product R comm (up b) x q ∙ ap (λ y. R.mul y (power R x q)) (up_fixed b)
-
-  -- A fixed element that is no constant: a partial product of its differences with the constants, and
-  -- the next difference, are a pair.
-  pub fixed_pair : ((x : M) → (x ≡ R.zero) ⊎ (x ≢ R.zero)) → (x : M) → power R x q ≡ x
-      → (i : ℕ) × (i < q) × (falling R points i x ≢ R.zero) × (R.mul (falling R points i x) (minus R x (points i)) ≡ R.zero)
-  fixed_pair dec x e =
-      factor_pair R dec one_apart_up points q x
-      (fixed_falls R comm q large_base points points_apart (λ j l. up_fixed (k.counted.nth j)) x e)
 
   -- The test by which a finite ring over the constants is accepted.
   pub accepted_over : (count : ℕ) → IsCounted R count → ((x : M) → power R x q ≡ R.zero → x ≡ R.zero)

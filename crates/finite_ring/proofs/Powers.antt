@@ -20,10 +20,6 @@ module _ {M : Type 0} (R : RingOn M) where
   pub power-two : (x : M) → power R x 2 ≡ R.mul x x
   power-two x = ap (λ y. R.mul y x) (power-one x)
 
-  pub one-power : (k : ℕ) → power R R.one k ≡ R.one
-  one-power zero = refl
-  one-power (suc k) = R.mul_one (power R R.one k) ∙ one-power k
-
   pub zero-power : (k : ℕ) → power R R.zero (suc k) ≡ R.zero
   zero-power k = mul_zero R (power R R.zero k)
 

@@ -1,11 +1,11 @@
 -- A polynomial of degree `n` with `n` roots, whose differences can be cancelled, is its leading
 -- coefficient times the product of the factors. So `x^q - x` is the product of the `x - c` over `q`
--- elements `c` that the power `q` fixes, and an element that it fixes beside them gives two nonzero
--- elements that multiply to zero.
+-- elements `c` that the power `q` fixes, and each element that it fixes is a root of that product: one of
+-- them, where no two nonzero elements multiply to zero.
 use Rattle.std.proofs.Common.{◌≡◌, ◌≢◌, ℕ, zero, suc, ◌<◌, ◌≤◌, ◌⊎◌, inl, inr, sym, ◌∙◌, ap, ap₂, refl, arith}
-use Rattle.ring_core.proofs.Carrier.{RingOn, add_zero, mul_neg, neg_add}
+use Rattle.ring_core.proofs.Carrier.{RingOn, add_zero, mul_neg, neg_add, minus_same}
 use Rattle.finite_ring.proofs.Powers.{power, mul_swap}
-use Rattle.finite_ring.proofs.Counted.{NoPair, difference_zero}
+use Rattle.finite_ring.proofs.Counted.{NoPair}
 
 -- `x - c`
 abbrev pub minus : {M : Type 0} → RingOn M → M → M → M
@@ -132,27 +132,21 @@ module _ {M : Type 0} (R : RingOn M) (comm : (a b : M) → R.mul a b ≡ R.mul b
       sym (product_of_roots q large c apart fixed x) ∙ ap (λ y. R.add y (R.neg x)) e ∙ R.add_neg x
 
 module _ {M : Type 0} (R : RingOn M) (dec : (x : M) → (x ≡ R.zero) ⊎ (x ≢ R.zero)) where
-  -- Where the product is zero and no factor is, a partial product and the next factor are a pair.
-  pub factor_pair : R.one ≢ R.zero → (c : ℕ → M) (n : ℕ) (x : M) → falling R c n x ≡ R.zero
-      → (k : ℕ) × (k < n) × (falling R c k x ≢ R.zero) × (R.mul (falling R c k x) (minus R x (c k)) ≡ R.zero)
-  factor_pair ne c zero x e = absurd (ne e)
-  factor_pair ne c (suc n) x e =
-      elim (dec (falling R c n x)) [
-        | inl d ↦
-            let p = factor_pair ne c n x d in
-            let l : p.0 < n = p.1 in
-            (p.0, omega arith, p.2, p.3)
-        | inr nd ↦ (n, omega arith, nd, e)
-      ]
-
   -- Where no two nonzero elements multiply to zero, a product is zero only where a factor is.
   pub root_among : R.one ≢ R.zero → NoPair R → (c : ℕ → M) (n : ℕ) (x : M) → falling R c n x ≡ R.zero → (k : ℕ) × (k < n) × (x ≡ c k)
-  root_among ne no_pair c n x e =
-      let p = factor_pair ne c n x e in (
-        p.0,
-        p.1,
-        elim (dec (minus R x (c p.0))) [
-          | inl d ↦ difference_zero R x (c p.0) d
-          | inr nd ↦ absurd (no_pair (falling R c p.0 x) (minus R x (c p.0)) p.2 nd p.3)
-        ],
-      )
+  root_among ne no_pair c zero x e = absurd (ne e)
+  root_among ne no_pair c (suc n) x e =
+      elim (dec (falling R c n x)) [
+        | inl d ↦
+            let p = root_among ne no_pair c n x d in
+            let l : p.0 < n = p.1 in
+            (p.0, omega arith, p.2)
+        | inr nd ↦ (
+          n,
+          omega arith,
+          elim (dec (minus R x (c n))) [
+            | inl m ↦ minus_same R x (c n) m
+            | inr nm ↦ absurd (no_pair (falling R c n x) (minus R x (c n)) nd nm e)
+          ],
+        )
+      ]

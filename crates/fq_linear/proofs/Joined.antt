@@ -2,11 +2,11 @@
 use Rattle.std.proofs.Common.{◌≡◌, ◌≢◌, ℕ, ◌+◌, ◌*◌, ◌<◌, ◌≤◌, inl, Bool, true, false, Option, Some, None, is_some, List, length, set, refl, sym, ◌∙◌, ap, ap₂, subst, arith, nat_lt, ltb-true, ltb-false}
 use Rattle.ring_core.specs.Ring.{RingOps, IsElem, IsRing}
 use Rattle.ring_core.specs.Coeffs.{coeff, are_elems}
-use Rattle.ring_core.proofs.Carrier.{elements, same_element, neg_mul, zero_mul, add_zero}
+use Rattle.ring_core.proofs.Carrier.{elements, same_element, neg_mul, neg_zero, zero_mul, add_zero}
 use Rattle.ring_core.proofs.Coefficients.{elem_read, coeff_past}
 use Rattle.linear_algebra.specs.Combines.{Combines, minus, IsReduced}
 use Rattle.linear_algebra.proofs.Sums.{by_bool}
-use Rattle.linear_algebra.proofs.Spans.{minus_plus, minus_minus, neg_zero}
+use Rattle.linear_algebra.proofs.Spans.{minus_plus, minus_minus}
 use Rattle.linear_algebra.proofs.Insert.{Joins, IsJoined, inserted_reduced, inserted_within, old_spanned, new_spanned}
 use Rattle.linear_algebra.proofs.Lift.{AllIn, AreIn, row_of, rows_of, to_spans, from_spans, to_reduced, from_reduced, combines_into, combines_row, combines_add, combines_minus, combines_scale, combines_as}
 use Rattle.fq_linear.specs.Places.{IsWritten, cleared}

@@ -5,9 +5,8 @@ use Rattle.std.proofs.lemmas.List.{replicate-append-replicate}
 use Rattle.ring_core.specs.Ring.{RingOps, IsElem, IsRing}
 use Rattle.ring_core.specs.Coeffs.{coeff, are_elems}
 use Rattle.ring_core.proofs.Coefficients.{elem_read, elems_take}
-use Rattle.ring_core.proofs.Carrier.{elements, add_zero, zero_mul, mul_zero}
+use Rattle.ring_core.proofs.Carrier.{elements, add_zero, zero_mul, mul_zero, neg_zero}
 use Rattle.linear_algebra.proofs.Sums.{by_bool, same_or_other}
-use Rattle.linear_algebra.proofs.Spans.{neg_zero}
 use Rattle.ring_core.specs.Field.{IsField}
 use Rattle.fq_linear.specs.Places.{IsWritten, IsTop, IsMonic, cleared}
 

@@ -5,13 +5,13 @@ use Rattle.std.proofs.lemmas.Bool.{and_from, cond_both}
 use Rattle.ring_core.specs.Ring.{RingOps, IsElem, IsRing}
 use Rattle.ring_core.specs.Field.{IsField}
 use Rattle.ring_core.specs.Coeffs.{coeff, are_elems, first_values}
-use Rattle.ring_core.proofs.Carrier.{RingOn, Element, elements, same_element}
+use Rattle.ring_core.proofs.Carrier.{RingOn, Element, elements, same_element, neg_zero}
 use Rattle.ring_core.proofs.Coefficients.{elem_read, coeff_past, elems-first_values}
 use Rattle.ring_core.proofs.FirstValues.{length-first_values, at-first_values}
 use Rattle.linear_algebra.specs.Combines.{Combines, combined, minus, beside}
 use Rattle.linear_algebra.specs.Linear.{entry, is_row, are_rows, IsCombination, IsRelation, IsDependent, IsIndependent, IsSolution, IsEchelonBasis, IsFirstDependence}
 use Rattle.linear_algebra.proofs.Sums.{combine}
-use Rattle.linear_algebra.proofs.Spans.{Spans, neg_zero, span_as, span_rows, span_into}
+use Rattle.linear_algebra.proofs.Spans.{Spans, span_as, span_rows, span_into}
 use Rattle.linear_algebra.proofs.Augment.{augmented as augmented_on, Eliminates, all_relations, no_relation, relations_span, dependent_is_lead, lead_depends, solution, nothing_left}
 use Rattle.linear_algebra.proofs.Lift.{AllIn, AreIn, row_of, rows_of, to_spans, from_spans, to_reduced, combines_into, combines_as, combines_rows, combine_value}
 use Rattle.fq_linear.specs.Places.{unit_row}

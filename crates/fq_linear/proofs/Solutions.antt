@@ -5,11 +5,11 @@ use Rattle.std.proofs.Common.{◌≡◌, ◌≢◌, ℕ, zero, suc, ◌<◌, ◌
 use Rattle.ring_core.specs.Ring.{RingOps, IsElem, IsRing}
 use Rattle.ring_core.specs.Field.{IsField}
 use Rattle.ring_core.specs.Coeffs.{coeff}
-use Rattle.ring_core.proofs.Carrier.{RingOn, Element, elements, same_element}
+use Rattle.ring_core.proofs.Carrier.{RingOn, Element, elements, same_element, minus_same, neg_zero}
 use Rattle.ring_core.proofs.Coefficients.{elem_read, coeff_past}
 use Rattle.linear_algebra.specs.Linear.{row_at, entry, is_row, are_rows, lead, IsCombination, IsEchelon, IsSolution}
 use Rattle.linear_algebra.proofs.Sums.{combine, combine_add, combine_neg}
-use Rattle.linear_algebra.proofs.Spans.{Spans, minus_same, neg_zero}
+use Rattle.linear_algebra.proofs.Spans.{Spans}
 use Rattle.linear_algebra.proofs.Augment.{Depends, zero_from}
 use Rattle.linear_algebra.proofs.Echelon.{Rising, same_count_below, same_count_back, same_members}
 use Rattle.linear_algebra.proofs.Lift.{row_of, rows_of, to_spans, from_spans, combines_row, combine_value}

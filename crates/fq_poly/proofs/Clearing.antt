@@ -5,14 +5,14 @@ use mathlib.Core.Path.{fun_ext}
 use Rattle.ring_core.specs.Ring.{RingOps, IsElem, IsRing, IsCommutative}
 use Rattle.ring_core.specs.Coeffs.{coeff, sum_below, are_elems, is_trimmed, is_canonical, trim}
 use Rattle.ring_core.specs.Twisted.{list_add, product_at}
-use Rattle.ring_core.proofs.Carrier.{RingOn, same_element, elements, add_zero, add_exchange, zero_mul, neg_mul}
+use Rattle.ring_core.proofs.Carrier.{RingOn, same_element, elements, add_zero, add_exchange, zero_mul, neg_mul, add_times_zero}
 use Rattle.ring_core.proofs.Coefficients.{coeff_past, elem_read, elems_set, coeff-trim, canonical-trim, same_coeffs}
 use Rattle.ring_core.proofs.Degrees.{top_nonzero}
 use Rattle.ring_core.proofs.Twist.{no_twist, sum_of_zeros}
 use Rattle.ring_core.proofs.ListRing.{coeff-add, add_in, product_in, mul_in, coeff-mul}
 use Rattle.fq_poly.specs.Poly.{poly_mul}
 use Rattle.fq_poly.specs.Division.{IsDivision}
-use Rattle.fq_poly.proofs.Terms.{product_kept, product_more, plus_times_zero}
+use Rattle.fq_poly.proofs.Terms.{product_kept, product_more}
 
 -- (p + f b) + (s - f b) = p + s
 moved : {M : Type 0} (R : RingOn M) (p s f b : M) → R.add (R.add p (R.mul f b)) (R.add s (R.mul (R.neg f) b)) ≡ R.add p s
@@ -81,7 +81,7 @@ module _ {E : Type 0} (r : RingOps E) (h : IsRing r) where
       let place : n ≡ k + j = omega arith in
       let over : length b ≤ j = omega arith in
       ap (coeff r left) place ∙ from j
-      ∙ plus_times_zero r h (coeff r rest (k + j)) m (coeff r b j) (elem_read r rest z er (k + j)) min (coeff_past r b j over)
+      ∙ add_times_zero r h (coeff r rest (k + j)) m (coeff r b j) (elem_read r rest z er (k + j)) min (coeff_past r b j over)
       ∙ cleared (k + j) (omega arith))
       (cases_eq n (k + high))
 

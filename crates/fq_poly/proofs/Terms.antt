@@ -2,10 +2,10 @@
 use Rattle.std.proofs.Common.{◌≡◌, ◌≢◌, ℕ, zero, suc, ◌+◌, ◌<◌, true, List, refl, sym, ◌∙◌, ap, ap₂, subst, ⊎_elim, arith}
 use Rattle.std.proofs.lemmas.Bool.{cases_eq}
 use mathlib.Core.Path.{fun_ext}
-use Rattle.ring_core.specs.Ring.{RingOps, IsElem, IsRing}
+use Rattle.ring_core.specs.Ring.{RingOps, IsRing}
 use Rattle.ring_core.specs.Coeffs.{coeff, are_elems}
 use Rattle.ring_core.specs.Twisted.{product_at}
-use Rattle.ring_core.proofs.Carrier.{RingOn, same_element, elements, add_zero, zero_mul, mul_zero}
+use Rattle.ring_core.proofs.Carrier.{RingOn, same_element, elements, add_zero, zero_mul}
 use Rattle.ring_core.proofs.Series.{conv, zero_conv, conv-add_left}
 use Rattle.ring_core.proofs.Twist.{no_twist}
 use Rattle.ring_core.proofs.ListRing.{value, product_is_conv}
@@ -85,9 +85,3 @@ module _ {E : Type 0} (r : RingOps E) (h : IsRing r) where
         more_terms (k + j)
         ∙ ap (r.add (product_at r (λ c i. c) u b (k + j)))
         (ap (λ x. x.0) (single_conv (elements h) k (k + j) j (value r h w s k) (value r h b q) refl))
-
-  -- adding a product with zero changes nothing
-  pub plus_times_zero : (x c y : E) → IsElem r x → IsElem r c → y ≡ r.zero → r.add x (r.mul c y) ≡ x
-  plus_times_zero x c y p q e =
-      ap (r.add x) (ap (r.mul c) e ∙ ap (λ z. z.0) (mul_zero (elements h) (c, q)))
-      ∙ ap (λ z. z.0) (add_zero (elements h) (x, p))

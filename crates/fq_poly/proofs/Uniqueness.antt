@@ -5,7 +5,7 @@ use Rattle.ring_core.specs.Ring.{RingOps}
 use Rattle.ring_core.specs.Field.{IsField}
 use Rattle.ring_core.specs.Coeffs.{coeff, is_canonical, first_values, list_of}
 use Rattle.ring_core.specs.Twisted.{list_add, list_neg}
-use Rattle.ring_core.proofs.Carrier.{RingOn, Element, same_element, elements, add_zero, add_cancel, neg_only, neg_neg, neg_mul, neg_add}
+use Rattle.ring_core.proofs.Carrier.{RingOn, Element, same_element, elements, add_zero, add_cancel, minus_same, neg_mul, neg_add}
 use Rattle.ring_core.proofs.Coefficients.{length-trim}
 use Rattle.ring_core.proofs.Degrees.{degrees_add, poly_no_divisors}
 use Rattle.ring_core.proofs.Twist.{no_twist}
@@ -28,10 +28,6 @@ module _ {M : Type 0} (R : RingOn M) where
       (ap (λ y. R.add y s) (R.add_mul c (R.neg d) b ∙ R.add_comm _ _ ∙ ap (λ y. R.add y (R.mul c b)) (neg_mul R d b))
       ∙ R.add_assoc _ _ _ ∙ ap (R.add (R.neg (R.mul d b))) e ∙ sym (R.add_assoc _ _ _)
       ∙ ap (λ y. R.add y t) (neg_add R (R.mul d b)) ∙ R.zero_add t)
-
-  -- c = d where c - d = 0
-  same_from_difference : (c d : M) → R.add c (R.neg d) ≡ R.zero → c ≡ d
-  same_from_difference c d e = neg_only R (R.neg d) c (R.add_comm (R.neg d) c ∙ e) ∙ neg_neg R d
 
 module _ {E : Type 0} (r : RingOps E) where
   length-list_of : (n : ℕ) (f : ℕ → E) → length (list_of r n f) ≤ n
@@ -76,7 +72,7 @@ module _ {E : Type 0} (r : RingOps E) (inv : E → Option E) (k : IsField r inv)
       (nil_from_length apart.0
       (no_multiple b apart.0 (list_add r other (list_neg r rest)) cb apart.1 (ap (λ x. x.0) multiple)
       (length-difference r rest other (length b) p.lower q.lower))) in
-      let quotients : one ≡ two = same_from_difference ring one two none in
+      let quotients : one ≡ two = minus_same ring one two none in
       let rests : left ≡ right =
       add_cancel ring (ring.mul two divisor) left right
       (ap (λ x. ring.add (ring.mul x divisor) left) (sym quotients) ∙ sums) in

@@ -1,10 +1,10 @@
 -- Elimination of rows with the unit matrix beside them: the reduced rows with a lead below the unit's width
 -- are the relations of the rows, in echelon form; a target reduced by the others leaves its coefficients.
 use Rattle.std.proofs.Common.{◌≡◌, ℕ, zero, suc, ◌+◌, ◌-◌, ◌<◌, ◌≤◌, ◌≢◌, ◌⊎◌, inl, inr, Bool, true, cond, nat_lt, refl, sym, ◌∙◌, ap, ap₂, subst, arith, ltb-true, ltb-false, lt-ltb, le-ltb}
-use Rattle.ring_core.proofs.Carrier.{RingOn, add_zero, zero_mul, mul_zero, neg_add, neg_only}
+use Rattle.ring_core.proofs.Carrier.{RingOn, add_zero, zero_mul, mul_zero, neg_add, neg_only, neg_zero}
 use Rattle.linear_algebra.specs.Combines.{beside}
 use Rattle.linear_algebra.proofs.Sums.{combine, unit, total_same, total_zero, total_rest, combine_same, combine_neg, combine_scale, product_assoc, combine_unit, unit_same, unit_other, by_bool, same_or_other}
-use Rattle.linear_algebra.proofs.Spans.{Spans, minus_minus, neg_zero, span_into, span_minus}
+use Rattle.linear_algebra.proofs.Spans.{Spans, minus_minus, span_into, span_minus}
 use Rattle.linear_algebra.proofs.Slots.{Reduced, expand, zero_at_leads, top_is_lead, low_part}
 
 -- The rows with the unit matrix of width `n` before them.
@@ -140,9 +140,6 @@ module _ {M : Type 0} (R : RingOn M) (distinct : R.one ≢ R.zero) (n w : ℕ) (
 -- The target `t` with zeros before it, reduced to `y`.
 module _ {M : Type 0} (R : RingOn M) (n w : ℕ) (v : ℕ → ℕ → M) (lead : ℕ → Bool) (slots : ℕ → ℕ → M) (e : Eliminates R n w v lead slots)
     (t y : ℕ → M) (taken : Spans R (n + w) slots (λ k. R.add (beside n (λ _. R.zero) t k) (R.neg (y k)))) (clear : (k : ℕ) → lead k ≡ true → y k ≡ R.zero) where
-  gap : ℕ → M
-  gap k = R.add (beside n (λ _. R.zero) t k) (R.neg (y k))
-
   -- where nothing is left, the low places are the coefficients
   pub solution : ((k : ℕ) → n ≤ k → y k ≡ R.zero) → (j : ℕ) → t j ≡ combine R n (λ i. R.neg (y i)) v j
   solution none j =

@@ -1,8 +1,8 @@
 -- Rows in the order of their leads: independence, leads, and that their span determines them.
 use Rattle.std.proofs.Common.{◌≡◌, ◌≢◌, ℕ, zero, suc, ◌<◌, ◌≤◌, ◌⊎◌, inl, inr, nat_lt, sym, ◌∙◌, ap, arith, ltb-true, ltb-false}
-use Rattle.ring_core.proofs.Carrier.{RingOn, zero_mul, mul_zero}
+use Rattle.ring_core.proofs.Carrier.{RingOn, zero_mul, mul_zero, minus_same}
 use Rattle.linear_algebra.proofs.Sums.{combine, total_zero, total_single, by_bool, same_or_other}
-use Rattle.linear_algebra.proofs.Spans.{Spans, minus_same, minus_self, span_minus, span_row}
+use Rattle.linear_algebra.proofs.Spans.{Spans, minus_self, span_minus, span_row}
 
 -- `n` rows with rising leads `at`, one at each lead, zero above it and at the leads of the other rows.
 pub record Rising {M : Type 0} (R : RingOn M) (n : ℕ) (at : ℕ → ℕ) (rows : ℕ → ℕ → M) : Type 0 where

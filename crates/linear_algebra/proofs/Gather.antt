@@ -2,7 +2,8 @@
 use Rattle.std.proofs.Common.{◌≡◌, ℕ, zero, suc, ◌<◌, inl, inr, Bool, true, false, cond, List, [], ◌∷◌, ◌++◌, length, get_or, refl, sym, ◌∙◌, ap, ap₂, subst, arith, add-one}
 use Rattle.std.proofs.lemmas.List.{get_or_append_left, get_or_push, length_push}
 use Rattle.ring_core.proofs.Carrier.{RingOn, add_zero, mul_zero}
-use Rattle.linear_algebra.proofs.Sums.{total, total_same, by_bool, same_or_other}
+use Rattle.ring_core.proofs.Series.{total}
+use Rattle.linear_algebra.proofs.Sums.{total_same, by_bool, same_or_other}
 use Rattle.linear_algebra.proofs.Spans.{Spans}
 
 -- The leads below `n`, lowest first.

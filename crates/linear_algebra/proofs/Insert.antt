@@ -1,8 +1,8 @@
 -- A row joins reduced rows: the rows are cleared at its lead, and it is kept there.
 use Rattle.std.proofs.Common.{◌≡◌, ℕ, ◌<◌, ◌≤◌, inl, inr, Bool, true, false, nat_lt, sym, ◌∙◌, ap, subst, arith, ltb-true, ltb-false}
-use Rattle.ring_core.proofs.Carrier.{RingOn, add_zero, zero_mul, mul_zero}
+use Rattle.ring_core.proofs.Carrier.{RingOn, add_zero, zero_mul, mul_zero, neg_zero}
 use Rattle.linear_algebra.proofs.Sums.{by_bool, same_or_other}
-use Rattle.linear_algebra.proofs.Spans.{Spans, minus_self, minus_plus, neg_zero, span_zero, span_add, span_minus, span_scale, span_row, span_as}
+use Rattle.linear_algebra.proofs.Spans.{Spans, minus_self, minus_plus, span_zero, span_add, span_minus, span_scale, span_row, span_as}
 use Rattle.linear_algebra.proofs.Slots.{Reduced}
 
 -- What joins reduced rows: a row with one at its lead `l` and zero at the other leads and above.

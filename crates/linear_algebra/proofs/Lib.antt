@@ -6,7 +6,5 @@ pub mod Augment
 pub mod Lift
 pub mod Gather
 pub mod Echelon
-pub mod Transform
-pub mod Tops
 pub mod RowLists
 pub mod Dependent

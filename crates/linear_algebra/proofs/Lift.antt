@@ -1,10 +1,10 @@
 -- From the elements of a `RingOps`, told by premises, to the ring of its elements and back.
 use Rattle.std.proofs.Common.{◌≡◌, ℕ, zero, suc, ◌<◌, ◌≤◌, Bool, refl, sym, ◌∙◌, ap, ap₂, arith}
 use Rattle.ring_core.specs.Ring.{RingOps, IsElem, IsRing}
-use Rattle.ring_core.specs.Coeffs.{sum_below}
 use Rattle.ring_core.proofs.Carrier.{Element, same_element, elements}
+use Rattle.ring_core.proofs.Twist.{total_is}
 use Rattle.linear_algebra.specs.Combines.{combined, Combines, minus, IsReduced}
-use Rattle.linear_algebra.proofs.Sums.{total, combine}
+use Rattle.linear_algebra.proofs.Sums.{combine}
 use Rattle.linear_algebra.proofs.Spans.{Spans, span_zero, span_add, span_minus, span_scale, span_row, span_into}
 use Rattle.linear_algebra.proofs.Slots.{Reduced}
 
@@ -22,18 +22,9 @@ abbrev pub rows_of : {E : Type 0} → (r : RingOps E) → (rows : ℕ → ℕ �
 rows_of r rows ri i k = (rows i k, ri i k)
 
 module _ {E : Type 0} (r : RingOps E) (h : IsRing r) where
-  pub total_value : (n : ℕ) (f : ℕ → Element r) → (total (elements h) n f).0 ≡ sum_below r n (λ i. (f i).0)
-  total_value zero f = refl
-  total_value (suc n) f = ap (λ x. r.add x (f n).0) (total_value n f)
-
   pub combine_value : (n : ℕ) (c : ℕ → Element r) (rows : ℕ → ℕ → Element r) (j : ℕ)
       → (combine (elements h) n c rows j).0 ≡ combined r n (λ i. (c i).0) (λ i k. (rows i k).0) j
-  combine_value n c rows j = total_value n _
-
-  pub combined_in : (n : ℕ) (c : ℕ → E) (rows : ℕ → ℕ → E) → AreIn r c → AllIn r rows → (j : ℕ) → IsElem r (combined r n c rows j)
-  combined_in zero c rows ci ri j = h.closed.zero_in
-  combined_in (suc n) c rows ci ri j =
-      h.closed.add_in _ _ (combined_in n c rows ci ri j) (h.closed.mul_in (c n) (rows n j) (ci n) (ri n j))
+  combine_value n c rows j = total_is r h n _
 
   pub to_spans : (n : ℕ) (rows : ℕ → ℕ → E) (ri : AllIn r rows) (x : ℕ → E) (xi : AreIn r x)
       → Combines r n rows x → Spans (elements h) n (rows_of r rows ri) (row_of r x xi)

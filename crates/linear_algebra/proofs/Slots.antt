@@ -33,10 +33,6 @@ module _ {M : Type 0} (R : RingOn M) (w : ℕ) (lead : ℕ → Bool) (slots : �
       (λ l. ap (λ a. R.mul a (slots j k)) (z j l) ∙ zero_mul R (slots j k))
       (λ l. ap (R.mul (x j)) (h.absent j k l) ∙ mul_zero R (x j)))
 
-  -- a combination is zero from `w` on
-  pub zero_past : (x : ℕ → M) → Spans R w slots x → (k : ℕ) → w ≤ k → x k ≡ R.zero
-  zero_past x s k l = s.is k ∙ total_zero R w _ (λ j (b : j < w). ap (R.mul (s.by j)) (h.above j k (omega arith)) ∙ mul_zero R (s.by j))
-
   -- the lead of a combination is one of the leads
   pub top_is_lead : (x : ℕ → M) → Spans R w slots x → (k : ℕ) → (x k ≡ R.zero → ⊥) → ((j : ℕ) → k < j → x j ≡ R.zero) → lead k ≡ true
   top_is_lead x s k ne top = by_bool (lead k) (λ l. l) (λ l. absurd (ne (expand x s k ∙ total_zero R w _ (λ j _.

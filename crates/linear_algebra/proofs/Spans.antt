@@ -1,6 +1,6 @@
 -- Rows that are combinations of other rows.
-use Rattle.std.proofs.Common.{◌≡◌, ℕ, zero, suc, ◌<◌, ◌≤◌, refl, sym, ◌∙◌, ap, ap₂, arith}
-use Rattle.ring_core.proofs.Carrier.{RingOn, add_zero, zero_mul, add_exchange, neg_mul, neg_neg, neg_only, neg_add, add_cancel}
+use Rattle.std.proofs.Common.{◌≡◌, ℕ, zero, suc, ◌<◌, refl, sym, ◌∙◌, ap, ap₂, arith}
+use Rattle.ring_core.proofs.Carrier.{RingOn, add_zero, zero_mul, neg_mul, neg_neg, neg_sum, neg_add}
 use Rattle.linear_algebra.proofs.Sums.{combine, unit, total_zero, total_same, unit_combine, combine_add, combine_scale}
 
 -- `x` is a combination of the first `n` rows.
@@ -9,11 +9,6 @@ pub record Spans {M : Type 0} (R : RingOn M) (n : ℕ) (rows : ℕ → ℕ → M
   pub is : (j : ℕ) → x j ≡ combine R n by rows j
 
 module _ {M : Type 0} (R : RingOn M) where
-  -- a - b = 0 only where a = b
-  pub minus_same : (a b : M) → R.add a (R.neg b) ≡ R.zero → a ≡ b
-  minus_same a b e =
-      add_cancel R (R.neg b) a b (R.add_comm (R.neg b) a ∙ e ∙ sym (neg_add R b))
-
   pub minus_self : (a b : M) → a ≡ b → R.add a (R.neg b) ≡ R.zero
   minus_self a b e = ap (λ x. R.add x (R.neg b)) e ∙ R.add_neg b
 
@@ -25,24 +20,16 @@ module _ {M : Type 0} (R : RingOn M) where
   pub neg_is : (a : M) → R.neg a ≡ R.mul (R.neg R.one) a
   neg_is a = ap R.neg (sym (R.one_mul a)) ∙ sym (neg_mul R R.one a)
 
-  pub neg_zero : R.neg R.zero ≡ R.zero
-  neg_zero = sym (R.zero_add (R.neg R.zero)) ∙ R.add_neg R.zero
-
-  pub neg_sum : (a b : M) → R.neg (R.add a b) ≡ R.add (R.neg a) (R.neg b)
-  neg_sum a b =
-      sym (neg_only R (R.add a b) (R.add (R.neg a) (R.neg b))
-      (add_exchange R a b (R.neg a) (R.neg b) ∙ ap₂ R.add (R.add_neg a) (R.add_neg b) ∙ R.zero_add R.zero))
-
   -- x - (y + (-c) s) = (x - y) + c s
   pub minus_cleared : (x y c s : M) → R.add x (R.neg (R.add y (R.mul (R.neg c) s))) ≡ R.add (R.add x (R.neg y)) (R.mul c s)
   minus_cleared x y c s =
-      ap (R.add x) (neg_sum y _ ∙ ap (R.add (R.neg y)) (ap R.neg (neg_mul R c s) ∙ neg_neg R (R.mul c s)))
+      ap (R.add x) (neg_sum R y _ ∙ ap (R.add (R.neg y)) (ap R.neg (neg_mul R c s) ∙ neg_neg R (R.mul c s)))
       ∙ sym (R.add_assoc x (R.neg y) (R.mul c s))
 
   -- x - (x - z) = z
   pub minus_minus : (x z : M) → R.add x (R.neg (R.add x (R.neg z))) ≡ z
   minus_minus x z =
-      ap (R.add x) (neg_sum x (R.neg z) ∙ ap (R.add (R.neg x)) (neg_neg R z)) ∙ sym (R.add_assoc x (R.neg x) z)
+      ap (R.add x) (neg_sum R x (R.neg z) ∙ ap (R.add (R.neg x)) (neg_neg R z)) ∙ sym (R.add_assoc x (R.neg x) z)
       ∙ ap (λ a. R.add a z) (R.add_neg x) ∙ R.zero_add z
 
   pub span_zero : (n : ℕ) (rows : ℕ → ℕ → M) (x : ℕ → M) → ((j : ℕ) → x j ≡ R.zero) → Spans R n rows x
@@ -85,11 +72,6 @@ module _ {M : Type 0} (R : RingOn M) where
 
   pub span_into : (n m : ℕ) (a b : ℕ → ℕ → M) (x : ℕ → M) → ((i : ℕ) → i < n → Spans R m b (a i)) → Spans R n a x → Spans R m b x
   span_into n m a b x h s = span_as m b _ x s.is (span_total n m a b s.by h)
-
-  -- more rows span no less
-  pub span_more : (n m : ℕ) (rows : ℕ → ℕ → M) (x : ℕ → M) → n ≤ m → Spans R n rows x → Spans R m rows x
-  span_more n m rows x l s =
-      span_into n m rows rows x (λ i b. span_row m rows i (omega arith)) s
 
   -- the rows told by their members
   pub span_rows : (n : ℕ) (a b : ℕ → ℕ → M) (x : ℕ → M) → ((i : ℕ) → i < n → (j : ℕ) → a i j ≡ b i j) → Spans R n a x → Spans R n b x

@@ -2,11 +2,7 @@
 use Rattle.std.proofs.Common.{◌≡◌, ℕ, zero, suc, ◌<◌, ◌≤◌, ◌≢◌, ◌⊎◌, inl, inr, Bool, true, false, cond, nat_eq, refl, sym, ◌∙◌, ap, ap₂, arith, eq-eqb, eqb-true, ne_eqb}
 use Rattle.std.proofs.lemmas.Bool.{eqb-false}
 use Rattle.ring_core.proofs.Carrier.{RingOn, add_zero, zero_mul, mul_zero, add_exchange, neg_only}
-
--- The sum of `f i` over `i` below `n`.
-abbrev pub total : {M : Type 0} → RingOn M → ℕ → (ℕ → M) → M
-total R zero f = R.zero
-total R (suc n) f = R.add (total R n f) (f n)
+use Rattle.ring_core.proofs.Series.{total}
 
 -- The sum of `c i` times row `i`, at place `j`.
 abbrev pub combine : {M : Type 0} → RingOn M → ℕ → (ℕ → M) → (ℕ → ℕ → M) → ℕ → M
@@ -97,10 +93,6 @@ module _ {M : Type 0} (R : RingOn M) where
   combine_unit n c j l =
       total_single n j _ l (λ i _ ne. ap (R.mul (c i)) (unit_other i j ne) ∙ mul_zero R (c i))
       ∙ ap (R.mul (c j)) (unit_same j j refl) ∙ R.mul_one (c j)
-
-  pub combine_unit_past : (n : ℕ) (c : ℕ → M) (j : ℕ) → n ≤ j → combine R n c (unit R) j ≡ R.zero
-  combine_unit_past n c j l =
-      total_zero n _ (λ i (b : i < n). ap (R.mul (c i)) (unit_other i j (λ e. omega arith)) ∙ mul_zero R (c i))
 
   pub combine_add : (n : ℕ) (c d : ℕ → M) (rows : ℕ → ℕ → M) (j : ℕ)
       → combine R n (λ i. R.add (c i) (d i)) rows j ≡ R.add (combine R n c rows j) (combine R n d rows j)

@@ -2,7 +2,7 @@
 -- actions commute, and a polynomial acts on one as itself. Over any commutative ring.
 use Rattle.std.proofs.Common.{◌≡◌, ℕ, zero, suc, ◌+◌, ◌≤◌, sym, refl, ap, ap₂, ◌∙◌, arith}
 use mathlib.Core.Path.{fun_ext}
-use Rattle.ring_core.proofs.Carrier.{RingOn, add_zero, zero_mul, mul_zero, add_exchange, neg_only, neg_zero, mul_neg}
+use Rattle.ring_core.proofs.Carrier.{RingOn, add_zero, zero_mul, mul_zero, add_exchange, neg_zero, neg_sum, mul_neg}
 
 abbrev pub shift : {M : Type 0} → RingOn M → (ℕ → M) → ℕ → M
 shift R v zero = R.zero
@@ -22,11 +22,6 @@ constant R c zero = c
 constant R c (suc i) = R.zero
 
 module _ {M : Type 0} (R : RingOn M) where
-  pub neg_sum : (a b : M) → R.neg (R.add a b) ≡ R.add (R.neg a) (R.neg b)
-  neg_sum a b =
-      sym (neg_only R (R.add a b) (R.add (R.neg a) (R.neg b))
-      (add_exchange R a b (R.neg a) (R.neg b) ∙ ap₂ R.add (R.add_neg a) (R.add_neg b) ∙ R.zero_add R.zero))
-
   -- a - 0 b = a
   pub minus_none : (a b : M) → R.add a (R.neg (R.mul R.zero b)) ≡ a
   minus_none a b = ap (λ x. R.add a (R.neg x)) (zero_mul R b) ∙ ap (R.add a) (neg_zero R) ∙ add_zero R a

@@ -5,12 +5,11 @@ use Rattle.std.proofs.lemmas.Bool.{cond-true, cond-false, cond_both, cases_order
 use Rattle.ring_core.specs.Ring.{RingOps, IsElem, IsRing, IsCommutative}
 use Rattle.ring_core.specs.Coeffs.{sum_below}
 use Rattle.ring_core.specs.Powers.{power_of}
-use Rattle.ring_core.proofs.Carrier.{Element, elements, add_exchange, mul_neg, mul_zero, add_zero}
+use Rattle.ring_core.proofs.Carrier.{Element, elements, add_exchange, neg_sum, mul_neg, mul_zero, add_zero}
 use Rattle.ring_core.proofs.Twist.{image_of_zero}
-use Rattle.finite_ring.proofs.FieldOf.{power_in}
+use Rattle.ring_core.proofs.PowerLaws.{power_in}
 use Rattle.finite_ring.specs.Finite.{IsPowerLinear}
 use Rattle.residue_field.specs.Residue.{Places, residue_ops, residue_unit, IsMonic, IsPlaces, IsLinear}
-use Rattle.residue_field.proofs.Act.{neg_sum}
 use Rattle.residue_field.proofs.ResidueRing.{residue_ring}
 use Rattle.residue_field.proofs.Embedded.{embed_on, embed-in, place-add, place-scale}
 

@@ -1,4 +1,4 @@
--- The definitions compute: products in fields of 4, 9 and 256 elements, and a base field as a value.
+-- The definitions compute: products in fields of 4 and 9 elements, a sum in one of 3, and a base field as a value.
 use Rattle.std.proofs.Common.{◌≡◌, zero, suc, ◌<◌, [], ◌∷◌, refl, arith, ltb-true}
 use Rattle.finite_ring.specs.Finite.{HasNoPair}
 use Rattle.residue_field.specs.Base.{Base, base_ops}

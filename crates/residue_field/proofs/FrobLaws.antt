@@ -1,17 +1,19 @@
 -- The laws of the embedding of the constants, of the Frobenius and of the coordinates, for residues
 -- without two nonzero ones that multiply to zero over any finite field of constants, in any storage.
-use Rattle.std.proofs.Common.{◌≡◌, ℕ, suc, ◌^◌, ◌<◌, ◌≤◌, sym, subst, arith}
+use Rattle.std.proofs.Common.{◌≡◌, ℕ, suc, ◌*◌, ◌^◌, ◌<◌, ◌≤◌, sym, ◌∙◌, ap, subst, pow-suc, one-mul, arith}
+use native.Mathlib.Nat.{pow-zero}
 use Rattle.ring_core.specs.Ring.{RingOps, IsRing, IsCommutative}
 use Rattle.ring_core.specs.Field.{FrobOps, IsFrobField}
 use Rattle.ring_core.specs.Coeffs.{coeff}
 use Rattle.ring_core.specs.Powers.{power_of}
 use Rattle.ring_core.proofs.Carrier.{elements}
+use Rattle.ring_core.proofs.Twist.{image_of_zero}
 use Rattle.ring_core.proofs.Coefficients.{elem_read}
-use Rattle.finite_ring.specs.Finite.{HasNoPair}
+use Rattle.finite_ring.specs.Finite.{HasNoPair, IsPowerFrob}
 use Rattle.finite_ring.proofs.Counted.{IsCounted}
 use Rattle.finite_ring.proofs.Frobenius.{IsFiniteField}
 use Rattle.finite_ring.proofs.Embedding.{power_frob, field_above}
-use Rattle.residue_field.specs.Residue.{constant_at, Places, residue_ops, IsMonic, IsPlaces}
+use Rattle.residue_field.specs.Residue.{constant_at, Places, residue_ops, IsMonic, IsPlaces, HasFieldPowers}
 use Rattle.residue_field.proofs.ResidueRing.{residue_ring, residue_commutes}
 use Rattle.residue_field.proofs.Counted.{residue_counted}
 use Rattle.residue_field.proofs.Embedded.{residue_embedding, embed_on, place-add, place-scale}
@@ -41,12 +43,33 @@ module _ {E T : Type 0} (r : RingOps E) (h : IsRing r) (commutes : IsCommutative
       field_above r h (residue_ops r n f c) ring (residue_commutes r h commutes n f m c p)
       (embed_on r h commutes n f m c p) (residue_embedding r h commutes n f m c p) q k degree positive (counted_by_degree ring) no_pair
 
+  -- the laws of the power q and its repetitions
+  power_laws : IsPowerFrob r (residue_ops r n f c) (embed_on r h commutes n f m c p) q degree
+  power_laws =
+      let ring = residue_ring r h commutes n f m c p in
+      power_frob r h (residue_ops r n f c) ring (residue_commutes r h commutes n f m c p)
+      (embed_on r h commutes n f m c p) (residue_embedding r h commutes n f m c p) q k degree positive (counted_by_degree ring) no_pair
+
+  -- only zero has the power q zero, and only constants have the power q that they are
+  pub residue_powers : HasFieldPowers r (residue_ops r n f c) (embed_on r h commutes n f m c p) q
+  residue_powers =
+      let t = residue_ops r n f c in
+      let ring = residue_ring r h commutes n f m c p in
+      let zero_in = ring.closed.zero_in in
+      let w = power_laws in
+      let once : q ^ 1 ≡ q = pow-suc q 0 ∙ ap (λ d. d * q) (pow-zero q) ∙ one-mul q in
+      record {
+        kernel = λ x e s.
+            w.frob_inj x t.zero 1 e zero_in
+            (ap (power_of t x) once ∙ s
+            ∙ sym (image_of_zero t ring (λ y. power_of t y (q ^ 1)) (λ y d. w.frob_in y 1 d) (λ y z d g. w.frob_add y z 1 d g)));
+        fixed = λ x e s. w.fixed x e (ap (power_of t x) once ∙ s);
+      }
+
   pub residue_frob_field : degree ≤ 16 → IsFrobField (residue_ops r n f c) r (residue_frob r n f c q degree)
   residue_frob_field small =
-      let ring = residue_ring r h commutes n f m c p in
       let e = residue_embedding r h commutes n f m c p in
-      let w = power_frob r h (residue_ops r n f c) ring (residue_commutes r h commutes n f m c p)
-      (embed_on r h commutes n f m c p) e q k degree positive (counted_by_degree ring) no_pair in
+      let w = power_laws in
       let low = λ (j : ℕ) (l : j < degree). subst (λ d. j < d) is l in
       record {
         degree_pos = positive;

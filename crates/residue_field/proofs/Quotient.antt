@@ -3,10 +3,11 @@ use Rattle.std.proofs.Common.{◌≡◌, ℕ, zero, suc, ◌+◌, ◌≤◌, sym
 use mathlib.Core.Path.{fun_ext}
 use Rattle.ring_core.specs.Ring.{RingOps, IsElem, IsRing, IsCommutative}
 use Rattle.ring_core.proofs.Carrier.{RingOn, Element, elements, same_element, add_swap, add_exchange}
+use Rattle.ring_core.proofs.Series.{zero_conv}
 use Rattle.finite_ring.proofs.FieldOf.{commute_on}
 use Rattle.residue_field.specs.Residue.{residue, IsMonic, IsRemainder}
 use Rattle.residue_field.proofs.Act.{shift, shift-add, x-eq, act, constant, first-and-rest, act-one, act-zero, act-longer, act-add_left}
-use Rattle.residue_field.proofs.Reduce.{HasTop, IsBelow, convolve, convolve-step, convolve-none, act-product, act-below}
+use Rattle.residue_field.proofs.Reduce.{HasTop, IsBelow, convolve, convolve-step, act-product, act-below}
 use Rattle.residue_field.proofs.ResidueRing.{product-value, residue-value}
 
 -- the tops that were cleared
@@ -32,7 +33,7 @@ module _ {M : Type 0} (R : RingOn M) (n : ℕ) (f : ℕ → M) where
   quotient-residue : (k : ℕ) (a : ℕ → M) → IsBelow R k a → (i : ℕ)
       → R.add (convolve R (quotient R n f k a) f i) (act R n f k a (constant R R.one) i) ≡ a i
   quotient-residue zero a below i =
-      ap (λ x. R.add x R.zero) (convolve-none R f i) ∙ R.zero_add R.zero ∙ sym (below i (omega arith))
+      ap (λ x. R.add x R.zero) (zero_conv R (λ x. x) i f) ∙ R.zero_add R.zero ∙ sym (below i (omega arith))
   quotient-residue (suc k) a below i =
       let rest = λ (j : ℕ). a (suc j) in
       let v = act R n f k rest (constant R R.one) in

@@ -1,32 +1,22 @@
 -- The ring of residues modulo a monic polynomial, over any commutative ring that is a set: a residue is
 -- a sequence that is zero past `n`, and `u v` is what `u` as a polynomial does to `v`.
 use native.Mathlib.Decide.{dec_le, dec_lt}
-use Rattle.std.proofs.Common.{◌≡◌, ◌⊎◌, inl, inr, ℕ, zero, suc, ◌+◌, ◌-◌, ◌<◌, ◌≤◌, sym, refl, ap, ap₂, ◌∙◌, arith}
+use Rattle.std.proofs.Common.{◌≡◌, ◌⊎◌, inl, inr, ℕ, zero, suc, ◌+◌, ◌<◌, ◌≤◌, sym, refl, ap, ap₂, ◌∙◌, arith}
 use mathlib.Core.Path.{fun_ext}
 use mathlib.Core.HLevel.{Σ_prop_path}
 use Rattle.ring_core.proofs.Carrier.{RingOn, add_zero, zero_mul, mul_zero, neg_zero}
-use Rattle.ring_core.proofs.Series.{total, total_first}
+use Rattle.ring_core.proofs.Series.{conv, zero_conv}
 use Rattle.residue_field.proofs.Act.{shift, x_act, act, constant, x-eq, act-add_right, act-add_left, act-scale_left, act-act, act-one, act-none, act-longer}
 
--- the product of polynomials
+-- the product of polynomials, without a twist
 abbrev pub convolve : {M : Type 0} → RingOn M → (ℕ → M) → (ℕ → M) → ℕ → M
-convolve R a b k = total R (suc k) (λ i. R.mul (a i) (b (k - i)))
+convolve R a b k = conv R (λ x. x) k a b
 
 module _ {M : Type 0} (R : RingOn M) where
-  total-none : (n : ℕ) (f : ℕ → M) → ((i : ℕ) → f i ≡ R.zero) → total R n f ≡ R.zero
-  total-none zero f e = refl
-  total-none (suc n) f e = ap₂ R.add (total-none n f e) (e n) ∙ R.zero_add R.zero
-
-  pub convolve-none : (b : ℕ → M) (j : ℕ) → convolve R (λ i. R.zero) b j ≡ R.zero
-  convolve-none b j = total-none (suc j) _ (λ i. zero_mul R (b (j - i)))
-
   -- a b = a_0 b + x (a' b)
   pub convolve-step : (a b : ℕ → M) (j : ℕ) → convolve R a b j ≡ R.add (R.mul (a 0) (b j)) (shift R (convolve R (λ i. a (suc i)) b) j)
-  convolve-step a b zero = R.zero_add _ ∙ sym (add_zero R _)
-  convolve-step a b (suc j) =
-      total_first R (suc j) (λ i. R.mul (a i) (b (suc j - i)))
-      ∙ ap₂ R.add (ap (λ m. R.mul (a 0) (b m)) (omega arith))
-      (ap (total R (suc j)) (fun_ext (λ i. ap (λ m. R.mul (a (suc i)) (b m)) (omega arith))))
+  convolve-step a b zero = sym (add_zero R (R.mul (a 0) (b 0)))
+  convolve-step a b (suc j) = refl
 
 -- f is monic of degree n + 1
 pub record HasTop {M : Type 0} (R : RingOn M) (n : ℕ) (f : ℕ → M) : Type 0 where
@@ -42,7 +32,7 @@ module _ {M : Type 0} (R : RingOn M) (commutes : (a b : M) → R.mul a b ≡ R.m
   pub act-product : (k m : ℕ) (a b v : ℕ → M) → IsBelow R k a → IsBelow R m b → (i : ℕ) → act R n f (k + m) (convolve R a b) v i ≡ act R n f k a (act R n f m b v) i
   act-product zero m a b v ka mb i =
       ap (λ c. act R n f (0 + m) (convolve R c b) v i) (fun_ext {g = λ j. R.zero} (λ j. ka j (omega arith)))
-      ∙ ap (λ c. act R n f (0 + m) c v i) (fun_ext {g = λ j. R.zero} (convolve-none R b))
+      ∙ ap (λ c. act R n f (0 + m) c v i) (fun_ext {g = λ j. R.zero} (λ j. zero_conv R (λ x. x) j b))
       ∙ act-none R commutes n f (0 + m) v i
   act-product (suc k) m a b v ka mb i =
       let rest = λ (j : ℕ). a (suc j) in

@@ -6,7 +6,7 @@ use Rattle.ring_core.specs.Ring.{RingOps, IsElem, IsClosed, IsRing, IsCommutativ
 use Rattle.ring_core.specs.Coeffs.{coeff, are_elems, sum_below}
 use Rattle.ring_core.proofs.Coefficients.{elem_read, coeff_past}
 use Rattle.ring_core.proofs.Carrier.{RingOn, Element, elements, same_element, mul_zero}
-use Rattle.ring_core.proofs.Series.{total}
+use Rattle.ring_core.proofs.Twist.{no_twist, conv_is_sum}
 use Rattle.ring_core.proofs.Values.{HasValues, ring_from_values, comm_from_values}
 use Rattle.finite_ring.proofs.FieldOf.{commute_on}
 use Rattle.residue_field.specs.Residue.{constant_at, times_x, residue, product, Places, residue_ops, IsMonic, IsPlaces}
@@ -23,14 +23,10 @@ elements_set {E} r h = hedberg (λ x y. dec_of x y (r.same x.0 y.0) refl)
 
 -- What contracts say of sequences is what holds of sequences of elements.
 module _ {E : Type 0} (r : RingOps E) (h : IsRing r) where
-  pub sum-value : (k : ℕ) (g : ℕ → Element r) → sum_below r k (λ i. (g i).0) ≡ (total (elements h) k g).0
-  sum-value zero g = refl
-  sum-value (suc k) g = ap (λ x. r.add x (g k).0) (sum-value k g)
-
   pub product-value : (a b : ℕ → Element r) (k : ℕ) → product r (λ i. (a i).0) (λ i. (b i).0) k ≡ (convolve (elements h) a b k).0
   product-value a b k =
       ap (λ m. sum_below r m (λ i. r.mul (a i).0 (b (k - i)).0)) (add-one k)
-      ∙ sum-value (suc k) (λ i. (elements h).mul (a i) (b (k - i)))
+      ∙ sym (conv_is_sum r h (λ x i. x) (no_twist r) k a b)
 
   -- c = c 1
   pub constant-value : (x : Element r) (i : ℕ) → constant_at r x.0 i ≡ r.mul x.0 (constant (elements h) (elements h).one i).0

@@ -1,19 +1,13 @@
 -- A table that one loop fills, entry by entry.
-use Rattle.std.proofs.Common.{◌≡◌, ℕ, zero, suc, ◌+◌, ◌*◌, ◌/◌, ◌%◌, ◌<◌, ◌≤◌, List, length, slice_index, refl, ap, ap₂, ◌∙◌, arith, mul-le-mul_right}
+use Rattle.std.proofs.Common.{◌≡◌, ℕ, suc, ◌+◌, ◌*◌, ◌/◌, ◌%◌, ◌≤◌, List, length, slice_index, ap, ap₂, ◌∙◌, arith, mul-le-mul_right}
 use Rattle.std.proofs.lemmas.Nat.{div-mul-add, mod-mul-add}
 use Rattle.ring_core.specs.Coeffs.{first_values}
-use Rattle.ring_core.proofs.FirstValues.{length-first_values}
-use Rattle.residue_field.specs.Prime.{prime_ops}
+use Rattle.ring_core.proofs.FirstValues.{length-first_values, at-first_values}
 use Rattle.residue_field.specs.Tables.{IsRow, IsTable}
-
-read-values : (n : ℕ) (f : ℕ → ℕ) (i : ℕ) → i < n → slice_index (first_values n f) i ≡ f i
-read-values zero f i l = absurd (omega arith)
-read-values (suc n) f zero l = refl
-read-values (suc n) f (suc i) l = read-values n (λ j. f (suc j)) i (omega arith)
 
 pub filled_row : (q : ℕ) (op : ℕ → ℕ) (row : List ℕ) → row ≡ first_values q op → IsRow q op row
 filled_row q op row e =
-    (ap length e ∙ length-first_values q op, λ a l. ap (λ t. slice_index t a) e ∙ read-values q op a l)
+    (ap length e ∙ length-first_values q op, λ a l. ap (λ t. slice_index t a) e ∙ at-first_values q op a 0 l)
 
 pub filled : (q : ℕ) (op : ℕ → ℕ → ℕ) (table : List ℕ) → table ≡ first_values (q * q) (λ m. op (m / q) (m % q)) → IsTable q op table
 filled q op table e =
@@ -21,6 +15,6 @@ filled q op table e =
       ap length e ∙ length-first_values (q * q) entry,
       λ a b l m.
           let row : suc a * q ≤ q * q = mul-le-mul_right q l in
-          ap (λ t. slice_index t (a * q + b)) e ∙ read-values (q * q) entry (a * q + b) (omega arith)
+          ap (λ t. slice_index t (a * q + b)) e ∙ at-first_values (q * q) entry (a * q + b) 0 (omega arith)
           ∙ ap₂ op (div-mul-add a q b m) (mod-mul-add a q b m),
     )

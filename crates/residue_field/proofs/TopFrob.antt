@@ -1,23 +1,21 @@
 -- Top fields with their Frobenius.
-use Rattle.std.proofs.Common.{◌≡◌, ℕ, ◌-◌, ◌^◌, ◌<◌, ◌≤◌, sym, ap, subst, ◌∙◌, arith}
-use Rattle.ring_core.specs.Ring.{IsElem, IsRing}
+use Rattle.std.proofs.Common.{◌≡◌, ◌↔◌, ℕ, suc, ◌-◌, ◌<◌, ◌≤◌, List, sym, refl, ap, subst, ◌∙◌, arith}
+use Rattle.ring_core.specs.Ring.{IsElem}
 use Rattle.ring_core.specs.Field.{IsFrobField}
 use Rattle.ring_core.specs.Coeffs.{coeff, sum_below}
-use Rattle.ring_core.specs.Powers.{power_of}
-use Rattle.ring_core.proofs.Carrier.{elements}
-use Rattle.finite_ring.proofs.Frobenius.{IsFiniteField}
 use Rattle.residue_field.specs.declared.TopElem.{TopElem}
 use Rattle.residue_field.specs.declared.TheConstants.{WIDTH}
-use Rattle.residue_field.specs.Residue.{residue_unit}
-use Rattle.residue_field.specs.Base.{ops_of, size_of}
+use Rattle.finite_ring.specs.Finite.{HasNoPair}
+use Rattle.residue_field.specs.Residue.{constant_at, residue_unit, HasFieldPowers}
+use Rattle.residue_field.specs.Base.{Base, ops_of, size_of}
 use Rattle.residue_field.specs.TopElem.{top_places}
-use Rattle.residue_field.specs.Top.{Top, top_ops, ops_of_top, embed_of, from_coords, frob_of_top, letter_of}
+use Rattle.residue_field.specs.Top.{Top, top_ops, ops_of_top, embed_of, from_coords, frob_of_top}
 use Rattle.residue_field.proofs.BaseLaws.{base_ring, base_commutes}
 use Rattle.residue_field.proofs.BaseFinite.{base_finite}
-use Rattle.residue_field.proofs.TopLaws.{top_monic, top_stored, top_degree, top_shape_of}
-use Rattle.residue_field.proofs.Letter.{letter_power}
+use Rattle.residue_field.proofs.TopLaws.{IsTopShape, top_monic, top_stored, top_degree, top_shape_of}
 use Rattle.residue_field.proofs.Coordinates.{linear_places}
-use Rattle.residue_field.proofs.FrobLaws.{residue_frob_field, residue_finite}
+use Rattle.residue_field.proofs.Embedded.{residue_accepted}
+use Rattle.residue_field.proofs.FrobLaws.{residue_frob_field, residue_powers}
 
 pub top_frob_field : (t : Top) → IsFrobField (ops_of_top t) (ops_of t.base) (frob_of_top t)
 unfolding top_ops embed_of from_coords
@@ -29,14 +27,21 @@ top_frob_field t =
     (top_places (ops_of t.base) n) (top_stored t.base n t.modulus shape) (size_of t.base) (base_finite t.base (base_ring t.base))
     t.n (sym (top_degree t)) t.is_top.5 (omega arith)
 
-pub top_finite : (t : Top) (ring : IsRing (ops_of_top t)) → IsFiniteField (elements ring) (size_of t.base ^ t.n)
+-- Residues are a field exactly where the powers by the number of constants are as in one.
+pub top_accepted : (base : Base) (n : ℕ) (modulus : List ℕ) → IsTopShape base n modulus
+    → HasNoPair (top_ops base n modulus)
+    ↔ HasFieldPowers (ops_of base) (top_ops base n modulus) (λ b. (top_places (ops_of base) n).pack (constant_at (ops_of base) b)) (size_of base)
 unfolding top_ops
-top_finite t ring =
-    let shape = top_shape_of t in
-    let n = t.n - 1 in
-    residue_finite (ops_of t.base) (base_ring t.base) (base_commutes t.base) n _ (top_monic t.base n t.modulus shape)
-    (top_places (ops_of t.base) n) (top_stored t.base n t.modulus shape) (size_of t.base) (base_finite t.base (base_ring t.base))
-    t.n (sym (top_degree t)) t.is_top.5 ring
+top_accepted base n modulus shape =
+    let r = ops_of base in
+    let ring = base_ring base in
+    let comm = base_commutes base in
+    let monic = top_monic base n modulus shape in
+    let stored = top_stored base n modulus shape in
+    let constants = base_finite base ring in (
+      (λ no_pair. residue_powers r ring comm n _ monic (top_places r n) stored (size_of base) constants (suc n) refl no_pair),
+      (λ w. residue_accepted r ring comm n _ monic (top_places r n) stored (size_of base) constants w.kernel w.fixed),
+    )
 
 -- The Frobenius by coefficients: that of x is the combination of those of the powers of the letter.
 pub frob_places : (t : Top) (x : TopElem) (i l : ℕ) → IsElem (ops_of_top t) x → l < t.n
@@ -60,12 +65,3 @@ frob_places t x i l e low =
     })
     x l e (subst (λ d. l < d) (sym (top_degree t)) low)
     ∙ ap (λ d. sum_below (ops_of t.base) d (λ j. (ops_of t.base).mul (coeff (ops_of t.base) x.0 j) (coeff (ops_of t.base) (frob (residue_unit (ops_of t.base) (top_places (ops_of t.base) n) j) i).0 l))) (top_degree t)
-
--- The powers of the letter below the degree.
-pub letter_of_power : (t : Top) (j : ℕ) → j < t.n → power_of (ops_of_top t) (letter_of t) j ≡ residue_unit (ops_of t.base) (top_places (ops_of t.base) (t.n - 1)) j
-unfolding top_ops letter_of
-letter_of_power t j l =
-    let shape = top_shape_of t in
-    let n = t.n - 1 in
-    letter_power (ops_of t.base) (base_ring t.base) (base_commutes t.base) n _ (top_monic t.base n t.modulus shape)
-    (top_places (ops_of t.base) n) (top_stored t.base n t.modulus shape) j (subst (λ d. j < d) (sym (top_degree t)) l)

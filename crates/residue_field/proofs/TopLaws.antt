@@ -1,21 +1,19 @@
 -- Top fields are fields. The laws of the ring hold for every monic modulus; that no two nonzero residues
 -- multiply to zero gives the field.
 use Rattle.std.proofs.Common.{◌≡◌, ℕ, suc, ◌+◌, ◌-◌, ◌^◌, ◌<◌, ◌≤◌, List, length, true, sym, ap, subst, ◌∙◌, arith}
-use Rattle.ring_core.specs.Ring.{IsRing, IsCommutative}
+use Rattle.ring_core.specs.Ring.{IsRing}
 use Rattle.ring_core.specs.Field.{IsField}
 use Rattle.ring_core.specs.Coeffs.{coeff, are_elems}
-use Rattle.ring_core.proofs.Carrier.{elements}
 use Rattle.ring_core.proofs.Coefficients.{elem_read, coeff_past}
 use Rattle.finite_ring.specs.Finite.{HasNoPair, inverse_by_power}
-use Rattle.finite_ring.proofs.Counted.{IsCounted}
 use Rattle.residue_field.specs.declared.TheConstants.{WIDTH}
 use Rattle.residue_field.specs.Residue.{IsMonic, IsPlaces}
 use Rattle.residue_field.specs.Base.{Base, ops_of, size_of}
 use Rattle.residue_field.specs.TopElem.{top_places}
 use Rattle.residue_field.specs.Top.{Top, top_ops, ops_of_top, inverse_of_top}
 use Rattle.residue_field.proofs.TopPlaces.{top_stores}
-use Rattle.residue_field.proofs.ResidueRing.{residue_ring, residue_commutes}
-use Rattle.residue_field.proofs.Counted.{residue_counted, residue_field}
+use Rattle.residue_field.proofs.ResidueRing.{residue_ring}
+use Rattle.residue_field.proofs.Counted.{residue_field}
 use Rattle.residue_field.proofs.BaseLaws.{base_ring, base_commutes, base_one, base_counted}
 
 -- The data of a top field of degree n + 1, before it is known that no two nonzero residues multiply to zero.
@@ -42,16 +40,6 @@ module _ (base : Base) (n : ℕ) (modulus : List ℕ) (shape : IsTopShape base n
   unfolding top_ops
   top_shape_ring = residue_ring (ops_of base) (base_ring base) (base_commutes base) n _ top_monic (top_places (ops_of base) n) top_stored
 
-  pub top_shape_commutes : IsCommutative (top_ops base n modulus)
-  unfolding top_ops
-  top_shape_commutes = residue_commutes (ops_of base) (base_ring base) (base_commutes base) n _ top_monic (top_places (ops_of base) n) top_stored
-
-  pub top_shape_counted : (ring : IsRing (top_ops base n modulus)) → IsCounted (elements ring) (size_of base ^ suc n)
-  unfolding top_ops
-  top_shape_counted =
-      residue_counted (ops_of base) (base_ring base) n _ (top_places (ops_of base) n) top_stored
-      (size_of base) (base_counted base (base_ring base))
-
   pub top_shape_field : HasNoPair (top_ops base n modulus) → IsField (top_ops base n modulus) (inverse_by_power (top_ops base n modulus) (size_of base ^ suc n))
   unfolding top_ops
   top_shape_field =
@@ -71,14 +59,6 @@ top_shape_of t = record {
 
 pub top_ring : (t : Top) → IsRing (ops_of_top t)
 top_ring t = top_shape_ring t.base (t.n - 1) t.modulus (top_shape_of t)
-
-pub top_commutes : (t : Top) → IsCommutative (ops_of_top t)
-top_commutes t = top_shape_commutes t.base (t.n - 1) t.modulus (top_shape_of t)
-
-pub top_counted : (t : Top) (ring : IsRing (ops_of_top t)) → IsCounted (elements ring) (size_of t.base ^ t.n)
-top_counted t ring =
-    subst (λ m. IsCounted (elements ring) (size_of t.base ^ m)) (top_degree t)
-    (top_shape_counted t.base (t.n - 1) t.modulus (top_shape_of t) ring)
 
 pub top_field : (t : Top) → IsField (ops_of_top t) (inverse_of_top t)
 top_field t =

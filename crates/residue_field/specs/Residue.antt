@@ -3,6 +3,7 @@
 use Rattle.std.specs.Prelude.{◌≡◌, ℕ, zero, suc, ◌+◌, ◌-◌, ◌<◌, ◌≤◌, Bool, true, cond, nat_eq}
 use Rattle.ring_core.specs.Ring.{RingOps, IsElem}
 use Rattle.ring_core.specs.Coeffs.{sum_below}
+use Rattle.ring_core.specs.Powers.{power_of}
 
 -- The constant `c` as a polynomial.
 abbrev pub constant_at : {E : Type 0} → RingOps E → E → ℕ → E
@@ -60,6 +61,12 @@ pub record IsLinear {E T : Type 0} (r : RingOps E) (t : RingOps T) (embed : E �
   pub map_in : (x : T) → IsElem t x → IsElem t (map x)
   pub map_add : (x y : T) → IsElem t x → IsElem t y → map (t.add x y) ≡ t.add (map x) (map y)
   pub map_scale : (b : E) (x : T) → IsElem r b → IsElem t x → map (t.mul (embed b) x) ≡ t.mul (embed b) (map x)
+
+-- The power `q` as in a field over the constants that `embed` gives: only zero has the power zero, and only
+-- constants have the power that they are.
+pub record HasFieldPowers {E T : Type 0} (r : RingOps E) (t : RingOps T) (embed : E → T) (q : ℕ) : Type 0 where
+  pub kernel : (x : T) → IsElem t x → power_of t x q ≡ t.zero → x ≡ t.zero
+  pub fixed : (x : T) → IsElem t x → power_of t x q ≡ x → (b : E) × IsElem r b × (x ≡ embed b)
 
 -- `f` is monic of degree `n + 1`.
 pub record IsMonic {E : Type 0} (r : RingOps E) (n : ℕ) (f : ℕ → E) : Type 0 where

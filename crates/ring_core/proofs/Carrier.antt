@@ -1,6 +1,6 @@
 -- A ring as a whole type: its operations with laws that have no premises. Algebra is proved over such
 -- a ring once; the elements of a `RingOps` with its laws make one.
-use Rattle.std.proofs.Common.{◌≡◌, sym, ◌∙◌, ap}
+use Rattle.std.proofs.Common.{◌≡◌, sym, ◌∙◌, ap, ap₂}
 use mathlib.Core.HLevel.{Σ_prop_path}
 use mathlib.Core.Bool.{Bool-set}
 use Rattle.ring_core.specs.Ring.{RingOps, IsElem, IsRing}
@@ -69,6 +69,16 @@ module _ {M : Type 0} (R : RingOn M) where
   pub neg_neg : (a : M) → R.neg (R.neg a) ≡ a
   neg_neg a = sym (neg_only (R.neg a) a (neg_add a))
 
+  pub neg_sum : (a b : M) → R.neg (R.add a b) ≡ R.add (R.neg a) (R.neg b)
+  neg_sum a b =
+      sym (neg_only (R.add a b) (R.add (R.neg a) (R.neg b))
+      (add_exchange a b (R.neg a) (R.neg b) ∙ ap₂ R.add (R.add_neg a) (R.add_neg b) ∙ R.zero_add R.zero))
+
+  -- a - b = 0 only where a = b
+  pub minus_same : (a b : M) → R.add a (R.neg b) ≡ R.zero → a ≡ b
+  minus_same a b e =
+      add_cancel (R.neg b) a b (R.add_comm (R.neg b) a ∙ e ∙ sym (neg_add b))
+
   pub neg_mul : (a b : M) → R.mul (R.neg a) b ≡ R.neg (R.mul a b)
   neg_mul a b =
       neg_only (R.mul a b) (R.mul (R.neg a) b)
@@ -103,3 +113,10 @@ elements {E} {r} h = record {
   mul_add = λ x y z. same_element r _ _ (h.mul_add x.0 y.0 z.0 x.1 y.1 z.1);
   add_mul = λ x y z. same_element r _ _ (h.add_mul x.0 y.0 z.0 x.1 y.1 z.1);
 }
+
+module _ {E : Type 0} (r : RingOps E) (h : IsRing r) where
+  -- a + c 0 = a
+  pub add_times_zero : (a c z : E) → IsElem r a → IsElem r c → z ≡ r.zero → r.add a (r.mul c z) ≡ a
+  add_times_zero a c z p q e =
+      ap (r.add a) (ap (r.mul c) e ∙ ap (λ x. x.0) (mul_zero (elements h) (c, q)))
+      ∙ ap (λ x. x.0) (add_zero (elements h) (a, p))

@@ -25,12 +25,6 @@ module _ {E : Type 0} (r : RingOps E) (h : IsRing r) where
       ap (power_of r a) next ∙ ap (λ x. r.mul x a) (power-add a m n p)
       ∙ h.mul_assoc _ _ _ (power_in a m p) (power_in a n p) p
 
-  -- an element commutes with its powers
-  pub power_commutes : (a : E) (k : ℕ) → IsElem r a → r.mul a (power_of r a k) ≡ power_of r a (suc k)
-  power_commutes a zero p = h.mul_one a p ∙ sym (h.one_mul a p)
-  power_commutes a (suc k) p =
-      sym (h.mul_assoc a _ a p (power_in a k p) p) ∙ ap (λ x. r.mul x a) (power_commutes a k p)
-
   pub power-even : (a : E) (k : ℕ) → IsElem r a → k % 2 ≡ 0 → power_of r a k ≡ r.mul (power_of r a (k / 2)) (power_of r a (k / 2))
   power-even a k p e =
       let halves : k ≡ k / 2 + k / 2 = omega arith in
@@ -50,9 +44,6 @@ module _ {E : Type 0} (r : RingOps E) (h : IsRing r) where
 
   term_in : (u : List E) (a : E) → are_elems r u ≡ true → IsElem r a → (i : ℕ) → IsElem r (r.mul (coeff r u i) (power_of r a i))
   term_in u a e p i = h.closed.mul_in _ _ (elem_read r u h.closed.zero_in e i) (power_in a i p)
-
-  pub value_in : (u : List E) (a : E) → are_elems r u ≡ true → IsElem r a → IsElem r (value_at r u a)
-  value_in u a e p = sum_in r h (length u) _ (λ i l. term_in u a e p i)
 
   horner_term : (u : List E) (a : E) → are_elems r u ≡ true → IsElem r a → (i : ℕ) → r.mul (coeff r u i) (power_of r a (suc i)) ≡ r.mul (r.mul (coeff r u i) (power_of r a i)) a
   horner_term u a e p i =

@@ -1,12 +1,12 @@
 -- A product made row by row: each coefficient of the left factor, times the right factor as the twist
 -- has raised it so far, is added from its place on.
-use Rattle.std.proofs.Common.{◌≡◌, ◌≢◌, ℕ, zero, suc, ◌+◌, ◌-◌, ◌<◌, ◌≤◌, min, true, List, ◌++◌, length, take, drop, set, refl, sym, ◌∙◌, ap, ap₂, ⊎_elim, arith, append-nil, take_all, get_or-set_same, get_or-set_other}
+use Rattle.std.proofs.Common.{◌≡◌, ◌≢◌, ℕ, zero, suc, ◌+◌, ◌-◌, ◌<◌, ◌≤◌, min, true, List, ◌++◌, length, take, drop, set, sym, ◌∙◌, ap, ap₂, ⊎_elim, arith, append-nil, take_all, get_or-set_same, get_or-set_other}
 use Rattle.std.proofs.lemmas.Bool.{cases_eq, cases_lt}
 use Rattle.std.proofs.lemmas.List.{drop_all}
 use Rattle.ring_core.specs.Ring.{RingOps, IsElem, IsRing}
 use Rattle.ring_core.specs.Coeffs.{coeff, sum_below, are_elems}
 use Rattle.ring_core.specs.Twisted.{product_at}
-use Rattle.ring_core.proofs.Carrier.{elements, add_zero, zero_mul, mul_zero}
+use Rattle.ring_core.proofs.Carrier.{elements, add_zero, zero_mul, add_times_zero}
 use Rattle.ring_core.proofs.Coefficients.{coeff_past, elem_read}
 use Rattle.ring_core.proofs.Twist.{IsTwist, sum_in}
 
@@ -17,9 +17,6 @@ pub record HasWritten {E : Type 0} (r : RingOps E) (i : ℕ) (f : ℕ → E) (be
   pub rest : (k : ℕ) → j ≤ k → coeff r out (i + k) ≡ coeff r before (i + k)
 
 module _ {E : Type 0} (r : RingOps E) (i : ℕ) (f : ℕ → E) (before : List E) where
-  pub written_none : HasWritten r i f before before 0
-  written_none = record { below = λ k l. refl; done = λ k (l : k < 0). absurd (omega arith); rest = λ k l. refl }
-
   pub written_more : (out : List E) (j n : ℕ) (x : E) → HasWritten r i f before out j → n ≡ i + j → n < length out → x ≡ f j → HasWritten r i f before (set out n x) (j + 1)
   written_more out j n x w place l is = record {
     below = λ k (m : k < i).
@@ -58,8 +55,7 @@ module _ {E : Type 0} (r : RingOps E) (h : IsRing r) where
       (λ (low : k < length row). w.done k low)
       (λ (high : length row ≤ k).
       w.rest k high
-      ∙ sym (ap (r.add old) (ap (r.mul c) (coeff_past r row k high) ∙ ap (λ x. x.0) (mul_zero (elements h) (c, p)))
-      ∙ ap (λ x. x.0) (add_zero (elements h) (old, elem_read r before h.closed.zero_in e (i + k)))))
+      ∙ sym (add_times_zero r h old c (coeff r row k) (elem_read r before h.closed.zero_in e (i + k)) p (coeff_past r row k high)))
       (cases_lt k (length row))
 
   -- what a row adds where the factor is zero

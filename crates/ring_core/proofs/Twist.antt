@@ -28,7 +28,7 @@ no_twist r = record {
 }
 
 module _ {E : Type 0} (r : RingOps E) (h : IsRing r) where
-  total_is : (n : ℕ) (g : ℕ → Element r) → (total (elements h) n g).0 ≡ sum_below r n (λ i. (g i).0)
+  pub total_is : (n : ℕ) (g : ℕ → Element r) → (total (elements h) n g).0 ≡ sum_below r n (λ i. (g i).0)
   total_is zero g = refl
   total_is (suc n) g = ap (λ s. r.add s (g n).0) (total_is n g)
 
