@@ -1,8 +1,9 @@
 -- A line's tokens with whole numbers, and those with numbers up to a cap: they are statements alike,
 -- and pass the same limit; where they pass none, they are the same.
-use Rattle.std.proofs.Common.{◌≡◌, ℕ, Bool, true, false, ◌||◌, nat_lt, Option, Some, None, List, [], ◌∷◌, refl, sym, ap, ◌∙◌, subst, arith}
+use Rattle.std.proofs.Common.{◌≡◌, ℕ, Bool, true, false, ◌||◌, ◌&&◌, nat_lt, if◌then◌else◌, Option, Some, None, List, [], ◌∷◌, refl, sym, ap, ◌∙◌, subst, arith}
 use Rattle.std.proofs.lemmas.Bool.Decides.{nat_tests}
 use Rattle.std.specs.List.{take_while, list_any}
+use Rattle.std.specs.Option.{option_or}
 use Rattle.std.specs.Char.{is_ascii_digit}
 use Rattle.std.specs.Str.Parse.{digits_value}
 use Rattle.script_lang.specs.declared.Form.{Form}
@@ -17,10 +18,9 @@ use Rattle.script_lang.proofs.Lexing.{tokens_once}
 use Rattle.script_statement.specs.declared.Verb.{Verb}
 use Rattle.script_statement.specs.Verbs.{verb_of}
 use Rattle.script_statement.specs.Statements.{IsStatement}
-use Rattle.script_parse.specs.declared.limit.Seen.{Seen}
 use Rattle.script_parse.specs.declared.line.Line.TheVariants as line
 use Rattle.script_parse.specs.Exact.{IsExact, StandsFor}
-use Rattle.script_parse.specs.Limits.{limit_at, number_limit, after, seen_of, first_kind, is_empty, first_limit, operands_limit, tokens_limit, is_as, is_naming, gives_name, line_limit}
+use Rattle.script_parse.specs.Limits.{over_limit, place_limit, is_bounded, number_limit, is_empty, passes, first_limit, operands_limit, tokens_limit, is_as, is_naming, gives_name, line_limit}
 use Rattle.script_parse.specs.Says.{LineSays}
 use Rattle.script_parse.proofs.Shapes.{SameShape, shape_next, shape_statement}
 
@@ -76,54 +76,66 @@ within_capped n e = grind (arith, nat_tests)
 capped_over : (n : ℕ) → nat_lt 999999999 n ≡ true → nat_lt 999999999 (capped n) ≡ true
 capped_over n e = grind (arith, nat_tests)
 
-number_over : (seen : Seen) (last : Bool) (n : ℕ) → nat_lt 999999999 n ≡ true → number_limit seen last n ≡ Some size.Number
-number_over seen last n e = cc
+number_over : (v : Verb) (before : List Token) (n : ℕ) (behind : List Token) → nat_lt 999999999 n ≡ true → number_limit v before n behind ≡ Some size.Number
+number_over v before n behind e = cc
 
 empties : {ts us : List Token} → Caps ts us → is_empty ts ≡ is_empty us
 empties Caps.no_caps = refl
 empties (Caps.cap_number x) = refl
 empties (Caps.cap_same x) = refl
 
-number_same : (seen : Seen) (n : ℕ) (ts us : List Token) → is_empty ts ≡ is_empty us → first_limit (after seen (token.Number n)) ts ≡ first_limit (after seen (token.Number n)) us
-    → (b : Bool) → nat_lt 999999999 n ≡ b → first_limit seen (token.Number n ∷ ts) ≡ first_limit seen (token.Number (capped n) ∷ us)
-number_same seen n ts us a h true e =
-    let f = number_over seen (is_empty ts) n e in
-    let g = number_over seen (is_empty us) (capped n) (capped_over n e) in
-    ap (λ k. first_kind k (first_limit (after seen (token.Number n)) ts)) f ∙ sym (ap (λ k. first_kind k (first_limit (after seen (token.Number (capped n))) us)) g)
-number_same seen n ts us a h false e =
-    let f : first_limit seen (token.Number n ∷ ts) ≡ first_limit seen (token.Number n ∷ us) = (λ i. first_kind (number_limit seen (a i) n) (h i)) in
-    subst (λ m. first_limit seen (token.Number n ∷ ts) ≡ first_limit seen (token.Number m ∷ us)) (sym (capped_within n e)) f
+number_behind : (v : Verb) (before : List Token) (n : ℕ) (ts us : List Token) → is_empty ts ≡ is_empty us → number_limit v before n ts ≡ number_limit v before n us
+number_behind v before n ts us e =
+    ap (λ b. if nat_lt 999999999 n then Some size.Number else if is_bounded v && b then over_limit 64 n size.Bound else place_limit v before n) e
 
-limits_same : (seen : Seen) {ts us : List Token} → Caps ts us → first_limit seen ts ≡ first_limit seen us
-limits_same seen Caps.no_caps = refl
-limits_same seen (Caps.cap_same {t = t} x) = (λ i. first_kind (limit_at seen (empties x i) t) (limits_same (after seen t) x i))
-limits_same seen (Caps.cap_number {n = n} {ts = ts} {us = us} x) = number_same seen n ts us (empties x) (limits_same (after seen (token.Number n)) x) (nat_lt 999999999 n) refl
+passes_behind : (v : Verb) (before : List Token) (t : Token) (ts us : List Token) → is_empty ts ≡ is_empty us → passes v before t ts ≡ passes v before t us
+passes_behind v before (token.Number n) ts us e = number_behind v before n ts us e
+passes_behind v before (token.Word w) ts us e = refl
+passes_behind v before (token.Letter l) ts us e = refl
+passes_behind v before token.As ts us e = refl
+passes_behind v before (token.Sign s) ts us e = refl
 
-first_none : (a b : Option SizeKind) → first_kind a b ≡ None → a ≡ None
+number_same : (v : Verb) (before : List Token) (n : ℕ) (ts us : List Token) → is_empty ts ≡ is_empty us
+    → first_limit v (token.Number n ∷ before) ts ≡ first_limit v (token.Number n ∷ before) us
+    → (b : Bool) → nat_lt 999999999 n ≡ b → first_limit v before (token.Number n ∷ ts) ≡ first_limit v before (token.Number (capped n) ∷ us)
+number_same v before n ts us a h true e =
+    let f = number_over v before n ts e in
+    let g = number_over v before (capped n) us (capped_over n e) in
+    ap (λ k. option_or k (first_limit v (token.Number n ∷ before) ts)) f ∙ sym (ap (λ k. option_or k (first_limit v (token.Number (capped n) ∷ before) us)) g)
+number_same v before n ts us a h false e =
+    let f : first_limit v before (token.Number n ∷ ts) ≡ first_limit v before (token.Number n ∷ us) = (λ i. option_or (number_behind v before n ts us a i) (h i)) in
+    subst (λ m. first_limit v before (token.Number n ∷ ts) ≡ first_limit v before (token.Number m ∷ us)) (sym (capped_within n e)) f
+
+limits_same : (v : Verb) (before : List Token) {ts us : List Token} → Caps ts us → first_limit v before ts ≡ first_limit v before us
+limits_same v before Caps.no_caps = refl
+limits_same v before (Caps.cap_same {t = t} {ts = ts} {us = us} x) = (λ i. option_or (passes_behind v before t ts us (empties x) i) (limits_same v (t ∷ before) x i))
+limits_same v before (Caps.cap_number {n = n} {ts = ts} {us = us} x) = number_same v before n ts us (empties x) (limits_same v (token.Number n ∷ before) x) (nat_lt 999999999 n) refl
+
+first_none : (a b : Option SizeKind) → option_or a b ≡ None → a ≡ None
 first_none None b e = refl
 first_none (Some k) b e = absurd cc
 
-second_none : (a b : Option SizeKind) → first_kind a b ≡ None → b ≡ None
+second_none : (a b : Option SizeKind) → option_or a b ≡ None → b ≡ None
 second_none None b e = e
 second_none (Some k) b e = absurd cc
 
-number_none : (seen : Seen) (last : Bool) (n : ℕ) (b : Bool) → nat_lt 999999999 n ≡ b → number_limit seen last n ≡ None → b ≡ false
-number_none seen last n false e f = refl
-number_none seen last n true e f = let g = number_over seen last n e in absurd cc
+number_none : (v : Verb) (before : List Token) (n : ℕ) (behind : List Token) (b : Bool) → nat_lt 999999999 n ≡ b → number_limit v before n behind ≡ None → b ≡ false
+number_none v before n behind false e f = refl
+number_none v before n behind true e f = let g = number_over v before n behind e in absurd cc
 
-caps_equal : (seen : Seen) {ts us : List Token} → Caps ts us → first_limit seen us ≡ None → ts ≡ us
-caps_equal seen Caps.no_caps e = refl
-caps_equal seen (Caps.cap_same {t = t} {us = us} x) e =
-    cons_same refl (caps_equal (after seen t) x (second_none (limit_at seen (is_empty us) t) (first_limit (after seen t) us) e))
-caps_equal seen (Caps.cap_number {n = n} {us = us} x) e =
+caps_equal : (v : Verb) (before : List Token) {ts us : List Token} → Caps ts us → first_limit v before us ≡ None → ts ≡ us
+caps_equal v before Caps.no_caps e = refl
+caps_equal v before (Caps.cap_same {t = t} {us = us} x) e =
+    cons_same refl (caps_equal v (t ∷ before) x (second_none (passes v before t us) (first_limit v (t ∷ before) us) e))
+caps_equal v before (Caps.cap_number {n = n} {us = us} x) e =
     let t = token.Number (capped n) in
-    let f = first_none (limit_at seen (is_empty us) t) (first_limit (after seen t) us) e in
-    let g = number_none seen (is_empty us) (capped n) (nat_lt 999999999 (capped n)) refl f in
-    cons_same (ap token.Number (sym (within_capped n g))) (caps_equal (after seen t) x (second_none (limit_at seen (is_empty us) t) (first_limit (after seen t) us) e))
+    let f = first_none (passes v before t us) (first_limit v (t ∷ before) us) e in
+    let g = number_none v before (capped n) us (nat_lt 999999999 (capped n)) refl f in
+    cons_same (ap token.Number (sym (within_capped n g))) (caps_equal v (t ∷ before) x (second_none (passes v before t us) (first_limit v (t ∷ before) us) e))
 
 operands_same : (v : Option Verb) {ts us : List Token} → Caps ts us → operands_limit v ts ≡ operands_limit v us
 operands_same None x = refl
-operands_same (Some v) x = limits_same (seen_of v) x
+operands_same (Some v) x = limits_same v [] x
 
 tokens_same : {ts us : List Token} → Caps ts us → tokens_limit ts ≡ tokens_limit us
 tokens_same Caps.no_caps = refl
@@ -156,7 +168,7 @@ line_same s g x =
 
 -- A statement without a limit has the same tokens.
 within_equal_at : (w : List ℕ) (v : Verb) {ts us : List Token} → Caps ts us → verb_of w ≡ Some v → operands_limit (verb_of w) us ≡ None → ts ≡ us
-within_equal_at w v {ts} {us} x e f = caps_equal (seen_of v) x (subst (λ q. operands_limit q us ≡ None) e f)
+within_equal_at w v {ts} {us} x e f = caps_equal v [] x (subst (λ q. operands_limit q us ≡ None) e f)
 
 within_equal : {ts us : List Token} {f : Form} → Caps ts us → IsStatement us f → tokens_limit us ≡ None → ts ≡ us
 within_equal Caps.no_caps y h = elim y [ ]

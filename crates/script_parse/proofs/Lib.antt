@@ -3,3 +3,4 @@ pub mod Lines
 pub mod OneScript
 pub mod Shapes
 pub mod Powers
+pub mod Scan

@@ -10,6 +10,7 @@ use Rattle.script_parse.specs.declared.line.Line.TheVariants as line
 use Rattle.script_parse.specs.declared.script.Refused.{Refused}
 use Rattle.script_parse.specs.declared.script.Refused.TheVariants as refused
 use Rattle.script_parse.specs.Says.{LineSays}
+use Rattle.script_parse.specs.declared.script.TheConstants.{SCRIPT_LIMIT}
 use Rattle.script_parse.specs.Scripts.{IsScript, FirstFault, statement_of, count}
 
 line_in_at : (b : ℕ) (bs l : List ℕ) (ls : List (List ℕ)) (c : Bool) (q : List (List ℕ)) → ((m : List ℕ) (ms : List (List ℕ)) → q ≡ m ∷ ms → length m ≤ length bs)
@@ -27,7 +28,7 @@ pub record ScriptSoFar (bytes rest : List ℕ) (n at s g : ℕ) (list : List Sta
   pub goes_on : (more : List Statement) → IsScript n at s g (lines rest) more → IsScript 1 0 0 0 (lines bytes) (list ++ more)
   pub faults : (r : Refused) → FirstFault n s g (lines rest) r → FirstFault 1 0 0 (lines bytes) r
   pub short : n + length rest ≤ length bytes + 1
-  pub placed : at + 65537 ≤ n * 65537
+  pub placed : at + (SCRIPT_LIMIT + 1) ≤ n * (SCRIPT_LIMIT + 1)
   pub counted : s + 1 ≤ n
   pub named : g + 1 ≤ n
 
@@ -41,7 +42,7 @@ so_far_start bytes = record {
   named = omega arith;
 }
 
-pub so_far_blank : (bytes rest l more : List ℕ) (n at s g : ℕ) (list : List Statement) → length bytes ≤ 65536 → ScriptSoFar bytes rest n at s g list
+pub so_far_blank : (bytes rest l more : List ℕ) (n at s g : ℕ) (list : List Statement) → length bytes ≤ SCRIPT_LIMIT → ScriptSoFar bytes rest n at s g list
     → lines rest ≡ l ∷ lines more → length more < length rest → LineSays s g l line.Blank → ScriptSoFar bytes more (n + 1) (at + length l + 1) s g list
 so_far_blank bytes rest l more n at s g list z f e k x =
     let i = line_in rest l (lines more) e in
@@ -62,7 +63,7 @@ count_in : (b : Bool) → count b ≤ 1
 count_in true = omega arith
 count_in false = omega arith
 
-pub so_far_statement : (bytes rest l more : List ℕ) (n at s g : ℕ) (list : List Statement) (f : Form) (named : Bool) → length bytes ≤ 65536 → ScriptSoFar bytes rest n at s g list
+pub so_far_statement : (bytes rest l more : List ℕ) (n at s g : ℕ) (list : List Statement) (f : Form) (named : Bool) → length bytes ≤ SCRIPT_LIMIT → ScriptSoFar bytes rest n at s g list
     → lines rest ≡ l ∷ lines more → length more < length rest → LineSays s g l (line.Says f named)
     → ScriptSoFar bytes more (n + 1) (at + length l + 1) (s + 1) (g + count named) (list ++ statement_of n at (at + length (strip_carriage_return l)) f ∷ [])
 so_far_statement bytes rest l more n at s g list form named z f e k x =
@@ -94,12 +95,12 @@ pub size_found : (bytes rest l more : List ℕ) (n at s g : ℕ) (list : List St
     → FirstFault 1 0 0 (lines bytes) (refused.Size k n)
 size_found bytes rest l more n at s g list k f e x = f.faults (refused.Size k n) (subst (λ v. FirstFault n s g v (refused.Size k n)) (sym e) (FirstFault.size_here x))
 
-pub so_far_blank_on : (bytes rest l more : List ℕ) (n at s g : ℕ) (list : List Statement) {m to : ℕ} → length bytes ≤ 65536 → ScriptSoFar bytes rest n at s g list
+pub so_far_blank_on : (bytes rest l more : List ℕ) (n at s g : ℕ) (list : List Statement) {m to : ℕ} → length bytes ≤ SCRIPT_LIMIT → ScriptSoFar bytes rest n at s g list
     → lines rest ≡ l ∷ lines more → length more < length rest → LineSays s g l line.Blank → m ≡ n + 1 → to ≡ at + length l + 1 → ScriptSoFar bytes more m to s g list
 so_far_blank_on bytes rest l more n at s g list {m} {to} z f e k x a b =
     subst (λ q. ScriptSoFar bytes more q to s g list) (sym a) (subst (λ q. ScriptSoFar bytes more (n + 1) q s g list) (sym b) (so_far_blank bytes rest l more n at s g list z f e k x))
 
-pub so_far_statement_on : (bytes rest l more : List ℕ) (n at s g : ℕ) (list : List Statement) (stop : ℕ) (f : Form) (named : Bool) {m to t h : ℕ} {all : List Statement} → length bytes ≤ 65536
+pub so_far_statement_on : (bytes rest l more : List ℕ) (n at s g : ℕ) (list : List Statement) (stop : ℕ) (f : Form) (named : Bool) {m to t h : ℕ} {all : List Statement} → length bytes ≤ SCRIPT_LIMIT
     → ScriptSoFar bytes rest n at s g list → lines rest ≡ l ∷ lines more → length more < length rest → LineSays s g l (line.Says f named)
     → m ≡ n + 1 → to ≡ at + length l + 1 → t ≡ s + 1 → h ≡ g + count named → stop ≡ at + length (strip_carriage_return l) → all ≡ list ++ statement_of n at stop f ∷ []
     → ScriptSoFar bytes more m to t h all

@@ -1,4 +1,5 @@
 pub mod Exact
 pub mod Limits
 pub mod Says
+pub mod Scan
 pub mod Scripts

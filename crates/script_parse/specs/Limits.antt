@@ -1,6 +1,9 @@
--- The limits in a line: the table by token, and their order.
-use Rattle.std.specs.Prelude.{◌<◌, ◌≤◌, ◌^◌, ℕ, ◌-◌, ◌||◌, ◌&&◌, ◌==◌, nat_lt, nat_le, if◌then◌else◌, Bool, true, false, Option, Some, None, List, [], ◌∷◌, length}
+-- The limits in a line: the limit that each token passes, told by the verb and by the tokens before and
+-- behind it, and which of them decides. `before` is what stands between the verb and the token, the
+-- nearest first.
+use Rattle.std.specs.Prelude.{◌<◌, ◌≤◌, ◌^◌, ◌+◌, ℕ, ◌||◌, ◌&&◌, ◌==◌, nat_lt, nat_le, if◌then◌else◌, Bool, true, false, not, Option, Some, None, List, [], ◌∷◌, length, count_by, take_while}
 use Rattle.std.specs.List.{list_any}
+use Rattle.std.specs.Option.{option_or}
 use Rattle.script_lang.specs.declared.Letter.{Letter}
 use Rattle.script_lang.specs.declared.Letter.TheVariants as letter
 use Rattle.script_lang.specs.declared.Sign.{Sign}
@@ -14,9 +17,6 @@ use Rattle.script_statement.specs.declared.Verb.TheVariants as verb
 use Rattle.script_statement.specs.declared.ModuleVerb.TheVariants as module_verb
 use Rattle.script_statement.specs.declared.PairVerb.TheVariants as pair_verb
 use Rattle.script_statement.specs.Verbs.{verb_of}
-use Rattle.script_parse.specs.declared.limit.Spot.{Spot}
-use Rattle.script_parse.specs.declared.limit.Spot.TheVariants as spot
-use Rattle.script_parse.specs.declared.limit.Seen.{Seen}
 
 -- A prime that a base may have.
 abbrev pub is_listed : ℕ → Bool
@@ -42,110 +42,85 @@ exponent_limit letter.SmallT n = over_limit 128 n size.Degree
 exponent_limit letter.CapitalT n = over_limit 16 n size.Image
 exponent_limit letter.X n = None
 
--- The limits of numbers, by what stands before them.
-abbrev pub spot_limit : Spot → ℕ → Option SizeKind
-spot_limit spot.Prime n = if is_listed n then None else Some size.Prime
-spot_limit (spot.Power p) n = over_limit (greatest_power p) n size.Base
-spot_limit spot.Top n = over_limit 12 n size.Top
-spot_limit (spot.Letter l) n = None
-spot_limit (spot.Exponent l) n = exponent_limit l n
-spot_limit spot.Other n = None
+-- The limit that a number passes by its place: the exponent of a letter, the prime of a base, the
+-- exponent of a base with this prime, the degree of a top.
+abbrev pub place_limit : Verb → List Token → ℕ → Option SizeKind
+place_limit v (token.Sign sign.Caret ∷ token.Letter l ∷ rest) n = exponent_limit l n
+place_limit verb.Base [] n = if is_listed n then None else Some size.Prime
+place_limit verb.Base (token.Number p ∷ []) n = over_limit (greatest_power p) n size.Base
+place_limit verb.Over [] n = over_limit 12 n size.Top
+place_limit v before n = None
 
--- The limits of a number: of each number first, then of the last one of `bounded`, or by its place.
-abbrev pub number_limit : Seen → Bool → ℕ → Option SizeKind
-number_limit seen last n =
-    if nat_lt 999999999 n then Some size.Number
-    else if seen.bounded && last then over_limit 64 n size.Bound
-    else spot_limit seen.spot n
-
--- The limit of the items of a list, at a comma: no room is left in it.
-abbrev pub comma_limit : Seen → Option SizeKind
-comma_limit seen = if nat_lt 0 seen.room then None else if nat_lt 0 seen.left then Some size.Rank else Some size.Degree
-
--- The limit that a token passes, after what was seen; `last` says that no token follows.
-abbrev pub limit_at : Seen → Bool → Token → Option SizeKind
-limit_at seen last (token.Number n) = number_limit seen last n
-limit_at seen last (token.Word w) = over_limit 32 (length w) size.Name
-limit_at seen last (token.Letter l) = None
-limit_at seen last token.As = None
-limit_at seen last (token.Sign sign.Comma) = comma_limit seen
-limit_at seen last (token.Sign s) = None
-
-abbrev pub number_after : Spot → ℕ → Spot
-number_after spot.Prime n = spot.Power n
-number_after s n = spot.Other
-
-abbrev pub sign_after : Spot → Sign → Spot
-sign_after (spot.Letter l) sign.Caret = spot.Exponent l
-sign_after s c = spot.Other
-
-abbrev pub spot_after : Spot → Token → Spot
-spot_after s (token.Number n) = number_after s n
-spot_after s (token.Word w) = spot.Other
-spot_after s (token.Letter l) = spot.Letter l
-spot_after s token.As = spot.Other
-spot_after s (token.Sign c) = sign_after s c
-
--- How many modules are left to come: one less after each name and each list.
-abbrev pub left_after : ℕ → Token → ℕ
-left_after left (token.Number n) = left
-left_after left (token.Word w) = left - 1
-left_after left (token.Letter l) = left
-left_after left token.As = left
-left_after left (token.Sign sign.CloseList) = left - 1
-left_after left (token.Sign s) = left
-
--- How many commas may come in a list: 8 in a module, 128 in a twisted polynomial.
-abbrev pub room_after : ℕ → ℕ → Token → ℕ
-room_after left room (token.Number n) = room
-room_after left room (token.Word w) = room
-room_after left room (token.Letter l) = room
-room_after left room token.As = room
-room_after left room (token.Sign sign.OpenList) = if nat_lt 0 left then 8 else 128
-room_after left room (token.Sign sign.Comma) = room - 1
-room_after left room (token.Sign s) = room
-
-abbrev pub after : Seen → Token → Seen
-after seen t = record {
-  spot = spot_after seen.spot t;
-  left = left_after seen.left t;
-  room = room_after seen.left seen.room t;
-  bounded = seen.bounded;
-}
-
--- What is seen of a line after its verb.
-abbrev pub seen_of : Verb → Seen
-seen_of verb.Base = record { spot = spot.Prime; left = 0; room = 0; bounded = false }
-seen_of verb.Over = record { spot = spot.Top; left = 0; room = 0; bounded = false }
-seen_of verb.Module = record { spot = spot.Other; left = 2; room = 0; bounded = false }
-seen_of verb.Ore = record { spot = spot.Other; left = 0; room = 0; bounded = false }
-seen_of verb.Show = record { spot = spot.Other; left = 0; room = 0; bounded = false }
-seen_of (verb.OfModule (module_verb.Ask q)) = record { spot = spot.Other; left = 1; room = 0; bounded = false }
-seen_of (verb.OfModule module_verb.J) = record { spot = spot.Other; left = 1; room = 0; bounded = false }
-seen_of (verb.OfModule module_verb.Image) = record { spot = spot.Other; left = 1; room = 0; bounded = false }
-seen_of (verb.OfModule module_verb.Quotient) = record { spot = spot.Other; left = 1; room = 0; bounded = false }
-seen_of (verb.OfModule module_verb.Motive) = record { spot = spot.Other; left = 1; room = 0; bounded = false }
-seen_of (verb.OfModule (module_verb.Pair pair_verb.Check)) = record { spot = spot.Other; left = 2; room = 0; bounded = false }
-seen_of (verb.OfModule (module_verb.Pair pair_verb.Bounded)) = record { spot = spot.Other; left = 2; room = 0; bounded = true }
-seen_of (verb.OfModule (module_verb.Pair (pair_verb.Relate r))) = record { spot = spot.Other; left = 2; room = 0; bounded = false }
-seen_of (verb.OfTwisted w) = record { spot = spot.Other; left = 0; room = 0; bounded = false }
-
-abbrev pub first_kind : Option SizeKind → Option SizeKind → Option SizeKind
-first_kind (Some k) later = Some k
-first_kind None later = later
+abbrev pub is_bounded : Verb → Bool
+is_bounded (verb.OfModule (module_verb.Pair pair_verb.Bounded)) = true
+is_bounded v = false
 
 abbrev pub is_empty : List Token → Bool
 is_empty [] = true
 is_empty (t ∷ ts) = false
 
+-- The limits of a number: of each number first, then of the last one of `bounded`, or by its place.
+abbrev pub number_limit : Verb → List Token → ℕ → List Token → Option SizeKind
+number_limit v before n behind =
+    if nat_lt 999999999 n then Some size.Number
+    else if is_bounded v && is_empty behind then over_limit 64 n size.Bound
+    else place_limit v before n
+
+-- How many operands that are Drinfeld modules come first, with the name of a new one.
+abbrev pub modules : Verb → ℕ
+modules verb.Module = 2
+modules (verb.OfModule (module_verb.Pair p)) = 2
+modules (verb.OfModule v) = 1
+modules v = 0
+
+-- An operand ends with a name or with the closing bracket of a list.
+abbrev pub ends_operand : Token → Bool
+ends_operand (token.Word w) = true
+ends_operand (token.Sign sign.CloseList) = true
+ends_operand t = false
+
+-- How many names and lists stand before.
+abbrev pub operands : List Token → ℕ
+operands before = count_by ends_operand before
+
+abbrev pub is_comma : Token → Bool
+is_comma (token.Sign sign.Comma) = true
+is_comma t = false
+
+abbrev pub is_opening : Token → Bool
+is_opening (token.Sign sign.OpenList) = true
+is_opening t = false
+
+-- How many commas stand before, since the last opening bracket.
+abbrev pub commas : List Token → ℕ
+commas before = count_by is_comma (take_while (λ t. not (is_opening t)) before)
+
+-- The limit of the coefficients in a list, from degree 0 on: one more of them follows each comma, in a
+-- module up to the greatest rank, else in a twisted polynomial up to the greatest degree.
+abbrev pub comma_limit : Verb → List Token → Option SizeKind
+comma_limit v before =
+    if nat_lt (operands before) (modules v) then over_limit 8 (commas before + 1) size.Rank
+    else over_limit 128 (commas before + 1) size.Degree
+
+abbrev pub sign_limit : Verb → List Token → Sign → Option SizeKind
+sign_limit v before sign.Comma = comma_limit v before
+sign_limit v before s = None
+
+-- The limit that a token passes, after those before it and with those behind it.
+abbrev pub passes : Verb → List Token → Token → List Token → Option SizeKind
+passes v before (token.Number n) behind = number_limit v before n behind
+passes v before (token.Word w) behind = over_limit 32 (length w) size.Name
+passes v before (token.Sign s) behind = sign_limit v before s
+passes v before t behind = None
+
 -- The limit that the leftmost token passes of those that pass one.
-abbrev pub first_limit : Seen → List Token → Option SizeKind
-first_limit seen [] = None
-first_limit seen (t ∷ ts) = first_kind (limit_at seen (is_empty ts) t) (first_limit (after seen t) ts)
+abbrev pub first_limit : Verb → List Token → List Token → Option SizeKind
+first_limit v before [] = None
+first_limit v before (t ∷ behind) = option_or (passes v before t behind) (first_limit v (t ∷ before) behind)
 
 abbrev pub operands_limit : Option Verb → List Token → Option SizeKind
 operands_limit None ts = None
-operands_limit (Some v) ts = first_limit (seen_of v) ts
+operands_limit (Some v) ts = first_limit v [] ts
 
 -- The first limit that the tokens of a line pass.
 abbrev pub tokens_limit : List Token → Option SizeKind

@@ -8,6 +8,5 @@ mod script;
 #[cfg(test)]
 mod tests;
 
-pub use limit::{Seen, Spot};
 pub use line::Line;
-pub use script::{Refused, parse};
+pub use script::{Refused, SCRIPT_LIMIT, parse};

@@ -1,98 +1,77 @@
-ghost use Rattle.std.specs.Prelude.{◌≡◌, ◌||◌, Some};
+ghost use Rattle.std.specs.Prelude.{◌≡◌, ◌∷◌, ◌||◌, ◌+◌, ◌-◌, if◌then◌else◌, cond, min, List, [], Some, None};
 ghost use Rattle.std.specs.List.{list_any};
-ghost use Rattle.script_parse.specs.Limits.{is_listed, greatest_power, over_limit, exponent_limit, spot_limit, number_limit, comma_limit, limit_at, number_after, sign_after, spot_after, left_after, room_after, after, seen_of, first_limit, is_as, is_naming};
+ghost use Rattle.script_lang.specs.declared.Token.{Token};
+ghost use Rattle.script_statement.specs.declared.Verb.{Verb};
+ghost use Rattle.script_parse.specs.Limits.{is_listed, greatest_power, over_limit, exponent_limit, place_limit, is_bounded, number_limit, modules, ends_operand, is_comma, is_opening, comma_limit, sign_limit, passes, first_limit, is_as, is_naming};
+ghost use Rattle.script_parse.specs.Scan.{spot_of, IsSeen};
 
 use script_lang::{Letter, Sign, SizeKind, Token, first};
 use script_statement::{ModuleVerb, PairVerb, Verb};
 
-/// What a number would be, by what stands before it.
+/// Where the tokens after the verb end.
 #[derive(Clone, Copy)]
-pub enum Spot {
-    /// The prime of a base.
-    Prime,
-    /// The exponent of a base with this prime.
-    Power(u32),
-    /// The degree of a top.
-    Top,
-    /// Not a number: a letter stands before.
+enum Spot {
+    /// There are none.
+    Start,
+    /// The first of them, a number.
+    First(u32),
+    /// A letter.
     Letter(Letter),
-    /// The exponent of a letter.
+    /// A letter and a caret.
     Exponent(Letter),
-    /// Any other number.
+    /// Anything else.
     Other,
 }
 
-/// What limits need to know of the tokens before: what a number would be, how many modules are left to
-/// come, how many commas may come in the list, and whether the last number is a bound.
+/// What limits need to know of the tokens before: where they end, how many modules are left to come, and
+/// how many commas stand since the last opening bracket, up to 255.
 #[derive(Clone, Copy)]
-pub struct Seen {
-    pub spot: Spot,
-    pub left: u32,
-    pub room: u32,
-    pub bounded: bool,
+struct Seen {
+    spot: Spot,
+    left: u8,
+    commas: u8,
 }
 
 /// The limit that the leftmost of the operands' tokens passes of those that pass one.
 pub(crate) fn first_limit(verb: Verb, tokens: &[Token]) -> Option<SizeKind>
-    ensures { result ≡ first_limit (seen_of verb) tokens.now }
+    ensures { result ≡ first_limit verb [] tokens.now }
 {
-    let mut seen = seen_of(verb);
+    let mut seen = Seen {
+        spot: Spot::Start,
+        left: modules(verb),
+        commas: 0,
+    };
     let mut rest = tokens;
-    while let Some((token, more)) = first(rest) {
-        if let Some(kind) = limit_at(seen, more.is_empty(), token) {
+    while let Some((token, behind)) = first(rest) {
+        if let Some(kind) = passes(verb, seen, token, behind) {
             return Some(kind);
         }
         seen = after(seen, token);
-        rest = more;
+        rest = behind;
     }
     None
 }
 
-/// What is seen of a line after its verb.
-fn seen_of(verb: Verb) -> Seen
-    ensures { result ≡ seen_of verb }
+/// How many operands that are Drinfeld modules come first, with the name of a new one.
+fn modules(verb: Verb) -> u8
+    ensures { result ≡ modules verb }
 {
     match verb {
-        Verb::Base => at_start(Spot::Prime, 0, false),
-        Verb::Over => at_start(Spot::Top, 0, false),
-        Verb::Module => at_start(Spot::Other, 2, false),
-        Verb::Ore => at_start(Spot::Other, 0, false),
-        Verb::Show => at_start(Spot::Other, 0, false),
-        Verb::OfModule(verb) => match verb {
-            ModuleVerb::Ask(_) => at_start(Spot::Other, 1, false),
-            ModuleVerb::J => at_start(Spot::Other, 1, false),
-            ModuleVerb::Image => at_start(Spot::Other, 1, false),
-            ModuleVerb::Quotient => at_start(Spot::Other, 1, false),
-            ModuleVerb::Motive => at_start(Spot::Other, 1, false),
-            ModuleVerb::Pair(pair) => match pair {
-                PairVerb::Check => at_start(Spot::Other, 2, false),
-                PairVerb::Bounded => at_start(Spot::Other, 2, true),
-                PairVerb::Relate(_) => at_start(Spot::Other, 2, false),
-            },
-        },
-        Verb::OfTwisted(_) => at_start(Spot::Other, 0, false),
+        Verb::Module => 2,
+        Verb::OfModule(ModuleVerb::Pair(_)) => 2,
+        Verb::OfModule(_) => 1,
+        _ => 0,
     }
 }
 
-fn at_start(spot: Spot, left: u32, bounded: bool) -> Seen
-    ensures { result ≡ record { spot = spot; left = left; room = 0; bounded = bounded } }
-{
-    Seen {
-        spot,
-        left,
-        room: 0,
-        bounded,
-    }
-}
-
-/// The limit that a token passes; `last` says that no token follows.
-fn limit_at(seen: Seen, last: bool, token: &Token) -> Option<SizeKind>
-    ensures { result ≡ limit_at seen last token.now }
+/// The limit that a token passes.
+fn passes(verb: Verb, seen: Seen, token: &Token, behind: &[Token]) -> Option<SizeKind>
+    ensures { (before : List Token) → IsSeen verb before seen → result ≡ passes verb before token.now behind.now }
 {
     match token {
-        Token::Number(n) => number_limit(seen, last, *n),
+        Token::Number(n) => number_limit(verb, seen.spot, *n, behind),
         Token::Word(bytes) => over_limit(32, bytes.len(), SizeKind::Name),
-        Token::Sign(sign) if *sign == Sign::Comma => comma_limit(seen),
+        Token::Sign(sign) => sign_limit(verb, seen, *sign),
         _ => None,
     }
 }
@@ -104,48 +83,70 @@ fn over_limit(limit: usize, n: usize, kind: SizeKind) -> Option<SizeKind>
     if limit < n { Some(kind) } else { None }
 }
 
-/// The limit of the items of a list, at a comma.
-fn comma_limit(seen: Seen) -> Option<SizeKind>
-    ensures { result ≡ comma_limit seen }
+/// The limit that a sign passes.
+fn sign_limit(verb: Verb, seen: Seen, sign: Sign) -> Option<SizeKind>
+    ensures { (before : List Token) → IsSeen verb before seen → result ≡ sign_limit verb before sign }
 {
-    if 0 < seen.room {
-        return None;
+    match sign {
+        Sign::Comma => comma_limit(verb, seen),
+        _ => None,
     }
+}
+
+/// The limit of the coefficients in a list, at a comma.
+fn comma_limit(verb: Verb, seen: Seen) -> Option<SizeKind>
+    ensures { (before : List Token) → IsSeen verb before seen → result ≡ comma_limit verb before }
+{
+    let degree = usize::from(seen.commas) + 1;
     if 0 < seen.left {
-        return Some(SizeKind::Rank);
+        return over_limit(8, degree, SizeKind::Rank);
     }
-    Some(SizeKind::Degree)
+    over_limit(128, degree, SizeKind::Degree)
 }
 
 /// The limit that a number passes.
-fn number_limit(seen: Seen, last: bool, n: u32) -> Option<SizeKind>
-    ensures { result ≡ number_limit seen last n }
+fn number_limit(verb: Verb, spot: Spot, n: u32, behind: &[Token]) -> Option<SizeKind>
+    ensures { (before : List Token) → spot ≡ spot_of before → result ≡ number_limit verb before n behind.now }
 {
     if 999_999_999 < n {
         return Some(SizeKind::Number);
     }
-    if seen.bounded && last {
+    if is_bounded(verb) && behind.is_empty() {
         return over_limit(64, n as usize, SizeKind::Bound);
     }
-    spot_limit(seen.spot, n)
+    place_limit(verb, spot, n)
+}
+
+/// Whether the last number is a bound.
+fn is_bounded(verb: Verb) -> bool
+    ensures { result ≡ is_bounded verb }
+{
+    match verb {
+        Verb::OfModule(ModuleVerb::Pair(PairVerb::Bounded)) => true,
+        _ => false,
+    }
 }
 
 /// The limit that a number passes by its place.
-fn spot_limit(spot: Spot, n: u32) -> Option<SizeKind>
-    ensures { result ≡ spot_limit spot n }
+fn place_limit(verb: Verb, spot: Spot, n: u32) -> Option<SizeKind>
+    ensures { (before : List Token) → spot ≡ spot_of before → result ≡ place_limit verb before n }
 {
-    match spot {
-        Spot::Prime => {
-            if is_listed(n) {
-                return None;
-            }
-            Some(SizeKind::Prime)
-        }
-        Spot::Power(p) => over_limit(greatest_power(p), n as usize, SizeKind::Base),
-        Spot::Top => over_limit(12, n as usize, SizeKind::Top),
-        Spot::Letter(_) => None,
-        Spot::Exponent(letter) => exponent_limit(letter, n as usize),
-        Spot::Other => None,
+    match (verb, spot) {
+        (_, Spot::Exponent(letter)) => exponent_limit(letter, n as usize),
+        (Verb::Base, Spot::Start) => prime_limit(n),
+        (Verb::Base, Spot::First(p)) => over_limit(greatest_power(p), n as usize, SizeKind::Base),
+        (Verb::Over, Spot::Start) => over_limit(12, n as usize, SizeKind::Top),
+        _ => None,
+    }
+}
+
+fn prime_limit(n: u32) -> Option<SizeKind>
+    ensures { result ≡ (if is_listed n then None else Some SizeKind.Prime) }
+{
+    if is_listed(n) {
+        None
+    } else {
+        Some(SizeKind::Prime)
     }
 }
 
@@ -190,67 +191,53 @@ fn greatest_power(p: u32) -> usize
 
 /// What is seen after a token.
 fn after(seen: Seen, token: &Token) -> Seen
-    ensures { result ≡ after seen token.now }
+    ensures { (v : Verb) (before : List Token) → IsSeen v before seen → IsSeen v (token.now ∷ before) result }
 {
     Seen {
         spot: spot_after(seen.spot, token),
         left: left_after(seen.left, token),
-        room: room_after(seen.left, seen.room, token),
-        bounded: seen.bounded,
+        commas: commas_after(seen.commas, token),
     }
 }
 
 fn spot_after(spot: Spot, token: &Token) -> Spot
-    ensures { result ≡ spot_after spot token.now }
+    ensures { (before : List Token) → spot ≡ spot_of before → result ≡ spot_of (token.now ∷ before) }
 {
-    match token {
-        Token::Number(n) => number_after(spot, *n),
-        Token::Word(_) => Spot::Other,
-        Token::Letter(letter) => Spot::Letter(*letter),
-        Token::As => Spot::Other,
-        Token::Sign(sign) => sign_after(spot, *sign),
-    }
-}
-
-fn number_after(spot: Spot, n: u32) -> Spot
-    ensures { result ≡ number_after spot n }
-{
-    match spot {
-        Spot::Prime => Spot::Power(n),
+    match (token, spot) {
+        (Token::Number(n), Spot::Start) => Spot::First(*n),
+        (Token::Letter(letter), _) => Spot::Letter(*letter),
+        (Token::Sign(Sign::Caret), Spot::Letter(letter)) => Spot::Exponent(letter),
         _ => Spot::Other,
     }
 }
 
-fn sign_after(spot: Spot, sign: Sign) -> Spot
-    ensures { result ≡ sign_after spot sign }
+fn left_after(left: u8, token: &Token) -> u8
+    ensures { result ≡ left - cond (ends_operand token.now) 1 0 }
 {
-    match (spot, sign) {
-        (Spot::Letter(letter), Sign::Caret) => Spot::Exponent(letter),
-        _ => Spot::Other,
+    if ends_operand(token) {
+        return left.saturating_sub(1);
     }
+    left
 }
 
-fn left_after(left: u32, token: &Token) -> u32
-    ensures { result ≡ left_after left token.now }
+/// Whether an operand ends with the token: a name, or the closing bracket of a list.
+fn ends_operand(token: &Token) -> bool
+    ensures { result ≡ ends_operand token.now }
 {
     match token {
-        Token::Word(_) => left.saturating_sub(1),
-        Token::Sign(sign) if *sign == Sign::CloseList => left.saturating_sub(1),
-        _ => left,
+        Token::Word(_) => true,
+        Token::Sign(Sign::CloseList) => true,
+        _ => false,
     }
 }
 
-fn room_after(left: u32, room: u32, token: &Token) -> u32
-    ensures { result ≡ room_after left room token.now }
+fn commas_after(commas: u8, token: &Token) -> u8
+    ensures { result ≡ cond (is_opening token.now) 0 (min (cond (is_comma token.now) 1 0 + commas) 255) }
 {
-    let Token::Sign(sign) = token else {
-        return room;
-    };
-    match sign {
-        Sign::OpenList if 0 < left => 8,
-        Sign::OpenList => 128,
-        Sign::Comma => room.saturating_sub(1),
-        _ => room,
+    match token {
+        Token::Sign(Sign::OpenList) => 0,
+        Token::Sign(Sign::Comma) => commas.saturating_add(1),
+        _ => commas,
     }
 }
 

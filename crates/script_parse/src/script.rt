@@ -1,12 +1,16 @@
 ghost use Rattle.std.specs.Prelude.{◌≡◌, ◌≢◌, ◌≤◌, ◌+◌, length, IfOk, IfErr};
 ghost use Rattle.std.specs.Str.Lines.{strip_carriage_return};
 ghost use Rattle.script_lang.specs.Lines.{lines};
+ghost use Rattle.script_parse.specs.declared.script.TheConstants.{SCRIPT_LIMIT};
 ghost use Rattle.script_parse.specs.Scripts.{IsScript, FirstFault, count};
 
 use super::line::{Line, read_line};
 use script_lang::{Script, SizeKind, Statement, next_line};
 use sqlite_items::Items;
 use std::alloc::Global;
+
+/// The most bytes that a script may have.
+pub const SCRIPT_LIMIT: usize = 65536;
 
 /// Why bytes are no script: the first line at fault, which isn't blank and is no statement, or is a
 /// statement and passes the limit of this kind; or memory is refused.
@@ -17,11 +21,11 @@ pub enum Refused {
     NoMemory,
 }
 
-/// The script that at most 65,536 bytes are: its statements in order, each with the number of its line
+/// The script that at most `SCRIPT_LIMIT` bytes are: its statements in order, each with the number of its line
 /// and the places of the line's first byte and of the byte after its last, without its carriage return
 /// and line feed. Else the first line at fault, or `NoMemory` where memory is refused.
 pub fn parse(alloc: Global, bytes: &[u8]) -> Result<Script, Refused>
-    requires { length bytes.now ≤ 65536 }
+    requires { length bytes.now ≤ SCRIPT_LIMIT }
     ensures found { IfOk result (λ x. IsScript 1 0 0 0 (lines bytes.now) x.list) }
     ensures fault { IfErr result (λ r. r ≢ Refused.NoMemory → FirstFault 1 0 0 (lines bytes.now) r) }
 {
@@ -35,30 +39,28 @@ pub fn parse(alloc: Global, bytes: &[u8]) -> Result<Script, Refused>
         let Ok(says) = read_line(alloc, statements, names, line) else {
             return Err(Refused::NoMemory);
         };
+        let here = number;
+        let start = at;
+        rest = more;
+        number += 1;
+        at += line.len() + 1;
         match says {
             Line::Blank => {}
-            Line::Syntax => return Err(Refused::Syntax(number)),
-            Line::Size(kind) => return Err(Refused::Size(kind, number)),
+            Line::Syntax => return Err(Refused::Syntax(here)),
+            Line::Size(kind) => return Err(Refused::Size(kind, here)),
             Line::Says(form, named) => {
                 let Ok(_) = list.push(Statement {
-                    line: number,
-                    start: at,
-                    stop: at + end_of(line),
+                    line: here,
+                    start,
+                    stop: start + end_of(line),
                     form,
                 }) else {
                     return Err(Refused::NoMemory);
                 };
-                rest = more;
-                number += 1;
-                at += line.len() + 1;
                 statements += 1;
                 names += count(named);
-                continue;
             }
         }
-        rest = more;
-        number += 1;
-        at += line.len() + 1;
     }
     Ok(Script { list })
 }

@@ -5,7 +5,7 @@ use std::alloc::Global;
 use std::test::Fail;
 
 /// Each statement once, with `as` where it may have one, and scripts at a limit or past it.
-const LINES: [(&str, Option<Refused>); 77] = [
+const LINES: [(&str, Option<Refused>); 82] = [
     ("", None),
     ("# nothing\n \t\n\r\n", None),
     ("base 2", None),
@@ -58,6 +58,11 @@ const LINES: [(&str, Option<Refused>); 77] = [
     ("add u", Some(Refused::Syntax(1))),
     ("rename m", Some(Refused::Syntax(1))),
     ("rank m\nrank m;", Some(Refused::Syntax(2))),
+    ("base 3", None),
+    ("base 5", None),
+    ("base 7", None),
+    ("base 11", None),
+    ("base 13", None),
     ("base 251", None),
     ("base 252", Some(Refused::Size(SizeKind::Prime, 1))),
     ("base 0", Some(Refused::Size(SizeKind::Prime, 1))),
@@ -102,7 +107,7 @@ const LINES: [(&str, Option<Refused>); 77] = [
 
 /// The fault of a script, which is short enough.
 fn fault_of(alloc: Global, script: &[u8]) -> Option<Refused> {
-    if script.len() > 65536 {
+    if script.len() > SCRIPT_LIMIT {
         return Some(Refused::NoMemory);
     }
     parse(alloc, script).err()
@@ -151,15 +156,32 @@ fn faults_of_many(rt: HostRuntime) -> Result<(), Fail> {
         let fault = fault_of(rt.alloc(), &text);
         assert_eq!(rt; fault, want, "{line}{last}");
     }
-    for (front, times, want) in [
-        ("ore u = [1", 128, None),
-        ("ore u = [1", 129, Some(Refused::Size(SizeKind::Degree, 1))),
+    Ok(())
+}
+
+#[test]
+fn faults_of_lists(rt: HostRuntime) -> Result<(), Fail> {
+    let rank = Some(Refused::Size(SizeKind::Rank, 1));
+    let degree = Some(Refused::Size(SizeKind::Degree, 1));
+    for (front, commas, back, want) in [
+        ("check m [1", 8, "] t", None),
+        ("check m [1", 9, "] t", rank),
+        ("check m n [1", 128, "]", None),
+        ("check m n [1", 129, "]", degree),
+        ("quotient [1", 8, "] t", None),
+        ("quotient [1", 9, "] t", rank),
+        ("quotient m [1", 128, "] as n", None),
+        ("quotient m [1", 129, "] as n", degree),
+        ("quotient [1,1,1,1,1,1,1,1,1] [1", 128, "]", None),
+        ("quotient [1,1,1,1,1,1,1,1,1] [1", 129, "]", degree),
+        ("ore u = [1", 128, "]", None),
+        ("ore u = [1", 129, "]", degree),
     ] {
-        let list = repeated(rt.alloc(), b",1", times, b"]")?;
+        let list = repeated(rt.alloc(), b",1", commas, back.as_bytes())?;
         let mut text = repeated(rt.alloc(), front.as_bytes(), 1, b"")?;
         text.extend_from_slice(&list)?;
         let fault = fault_of(rt.alloc(), &text);
-        assert_eq!(rt; fault, want, "{front}");
+        assert_eq!(rt; fault, want, "{front} {commas}");
     }
     Ok(())
 }

@@ -2,6 +2,7 @@ use Rattle.std.proofs.Common.{◌≡◌, ◌+◌, ◌<◌, ◌≤◌, ◌∷◌,
 use Rattle.script_lang.specs.Lines.{lines}
 use Rattle.script_parse.specs.declared.line.Line.TheVariants as line
 use Rattle.script_parse.specs.Says.{LineSays}
+use Rattle.script_parse.specs.declared.script.TheConstants.{SCRIPT_LIMIT}
 use Rattle.script_parse.proofs.Lines.{so_far_blank_on, so_far_statement_on, syntax_found, size_found, script_read}
 use Rattle.script_parse.proofs.script.parse.Goals as goal
 
@@ -17,21 +18,21 @@ returns-in-Size-clause-fault c =
     let e : lines c.loop-line.rest.now ≡ c.in-Some.line.now ∷ lines c.in-Some.more.now = search rules in
     (λ z. size_found c.args.bytes.now c.loop-line.rest.now c.in-Some.line.now c.in-Some.more.now c.loop-line.number c.loop-line.at c.loop-line.statements c.loop-line.names c.loop-line.list c.in-Size.kind c.loop-line.invariant e x)
 
-pub loop-line-preserved-in-Says : goal.loop-line-preserved-in-Says
-loop-line-preserved-in-Says c =
+pub loop-line-preserved : goal.loop-line-preserved
+loop-line-preserved c =
     let x : LineSays c.loop-line.statements c.loop-line.names c.in-Some.line.now (line.Says c.in-Says.form c.in-Says.named) = search rules in
     let e : lines c.loop-line.rest.now ≡ c.in-Some.line.now ∷ lines c.in-Some.more.now = search rules in
     let k : length c.in-Some.more.now < length c.loop-line.rest.now = search rules in
-    let z : length c.args.bytes.now ≤ 65536 = search rules in
+    let z : length c.args.bytes.now ≤ SCRIPT_LIMIT = search rules in
     so_far_statement_on c.args.bytes.now c.loop-line.rest.now c.in-Some.line.now c.in-Some.more.now c.loop-line.number c.loop-line.at c.loop-line.statements c.loop-line.names c.loop-line.list (c.loop-line.at + c.end_of.result) c.in-Says.form c.in-Says.named z c.loop-line.invariant e k x
     (search rules) (search rules) (search rules) (search rules) (search rules) (search rules)
 
-pub loop-line-preserved : goal.loop-line-preserved
-loop-line-preserved c =
+pub loop-line-preserved-in-Blank : goal.loop-line-preserved-in-Blank
+loop-line-preserved-in-Blank c =
     let x : LineSays c.loop-line.statements c.loop-line.names c.in-Some.line.now line.Blank = search rules in
     let e : lines c.loop-line.rest.now ≡ c.in-Some.line.now ∷ lines c.in-Some.more.now = search rules in
     let k : length c.in-Some.more.now < length c.loop-line.rest.now = search rules in
-    let z : length c.args.bytes.now ≤ 65536 = search rules in
+    let z : length c.args.bytes.now ≤ SCRIPT_LIMIT = search rules in
     so_far_blank_on c.args.bytes.now c.loop-line.rest.now c.in-Some.line.now c.in-Some.more.now c.loop-line.number c.loop-line.at c.loop-line.statements c.loop-line.names c.loop-line.list z c.loop-line.invariant e k x (search rules) (search rules)
 
 pub returns-clause-found : goal.returns-clause-found
