@@ -1,8 +1,9 @@
 -- The Frobenius of a top field as a linear map that is kept as a list.
 use Rattle.std.specs.Prelude.{ℕ, ◌+◌, ◌-◌, ◌/◌, ◌%◌, ◌^◌, List, [], slice_index_or}
 use Rattle.ring_core.specs.Ring.{RingOps}
-use Rattle.ring_core.specs.Coeffs.{coeff, sum_below}
+use Rattle.ring_core.specs.Coeffs.{coeff}
 use Rattle.ring_core.specs.Powers.{power_of}
+use Rattle.linear_algebra.specs.Combines.{combined as combined_rows}
 use Rattle.residue_field.specs.declared.TopElem.{TopElem}
 use Rattle.residue_field.specs.Residue.{residue_unit}
 use Rattle.residue_field.specs.TopElem.{top_places}
@@ -21,4 +22,4 @@ image_at images k = slice_index_or images k (record { 0 = [] })
 -- Coefficient `l` of the sum of the `n` images from the place `start` on, each multiplied with the
 -- coefficient of `c` at its place.
 unfoldable pub combined : RingOps ℕ → ℕ → List TopElem → ℕ → TopElem → ℕ → ℕ
-combined r n images start c l = sum_below r n (λ j. r.mul (coeff r c.0 j) (coeff r (image_at images (start + j)).0 l))
+combined r n images start c = combined_rows r n (coeff r c.0) (λ j. coeff r (image_at images (start + j)).0)
