@@ -10,7 +10,8 @@ use Rattle.residue_field.specs.TopElem.{top_places}
 use Rattle.residue_field.specs.Base.{Base, ops_of, size_of}
 use Rattle.residue_field.specs.Top.{top_ops}
 
--- The power by `q^(k / n)` of the residue of `z^(k % n)`, where `base` has `q` elements.
+-- The power by `q^(k / n)` of the residue with one at place `k % n` and zero elsewhere, which is that of
+-- the power `k % n` of the letter, where `base` has `q` elements.
 unfoldable pub frob_image : Base → ℕ → List ℕ → ℕ → TopElem
 frob_image base n modulus k =
     power_of (top_ops base (n - 1) modulus) (residue_unit (ops_of base) (top_places (ops_of base) (n - 1)) (k % n)) (size_of base ^ (k / n))
