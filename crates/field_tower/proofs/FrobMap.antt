@@ -1,11 +1,12 @@
 -- The Frobenius of a top field from the images of the powers of the letter.
-use Rattle.std.proofs.Common.{◌≡◌, ℕ, zero, suc, ◌+◌, ◌-◌, ◌*◌, ◌/◌, ◌%◌, ◌^◌, ◌<◌, ◌≤◌, nat_eq, true, List, length, sym, refl, ap, ap₂, subst, ◌∙◌, arith, eqb-true, mul-le-mul_right}
+use Rattle.std.proofs.Common.{◌≡◌, ℕ, suc, ◌+◌, ◌-◌, ◌*◌, ◌/◌, ◌%◌, ◌^◌, ◌<◌, ◌≤◌, nat_eq, true, List, length, sym, ap, ap₂, subst, ◌∙◌, arith, eqb-true, mul-le-mul_right}
 use Rattle.std.proofs.Math.Nat.{mod-eq_of_lt, div-eq_of_lt, add-div_right, add-mod_right}
 use Rattle.std.proofs.lemmas.Bool.{and_parts, cond_both}
 use Rattle.std.proofs.lemmas.Nat.{div-mul-add, mod-mul-add}
 use Rattle.ring_core.specs.Ring.{IsElem}
 use Rattle.ring_core.specs.Coeffs.{coeff, are_elems, first_values}
 use Rattle.ring_core.specs.Powers.{power_of}
+use Rattle.ring_core.proofs.FirstValues.{length-first_values, at-first_values}
 use Rattle.ring_core.proofs.Twist.{sum_same}
 use Rattle.ring_core.proofs.PowerLaws.{power_in}
 use Rattle.residue_field.specs.declared.TopElem.{TopElem}
@@ -23,20 +24,11 @@ use Rattle.field_tower.proofs.Stored.{stored_from}
 use Rattle.field_tower.proofs.PowerSteps.{power_none, power_size}
 use Rattle.field_tower.proofs.TopValues.{top_elems}
 
-pub read-images : (count : ℕ) (f : ℕ → TopElem) (k : ℕ) → k < count → image_at (first_values count f) k ≡ f k
-read-images zero f k l = absurd (omega arith)
-read-images (suc n) f zero l = refl
-read-images (suc n) f (suc k) l = read-images n (λ j. f (suc j)) k (omega arith)
-
 pub image-read : (images : List TopElem) (count : ℕ) (f : ℕ → TopElem) → images ≡ first_values count f → (k : ℕ) → k < count → image_at images k ≡ f k
-image-read images count f e k l = ap (λ t. image_at t k) e ∙ read-images count f k l
+image-read images count f e k l = ap (λ t. image_at t k) e ∙ at-first_values count f k _ l
 
 pub images_count : (images : List TopElem) (count : ℕ) (f : ℕ → TopElem) → images ≡ first_values count f → length images ≡ count
-images_count images count f e = ap length e ∙ count_of count f
-  where
-    count_of : (n : ℕ) (f : ℕ → TopElem) → length (first_values n f) ≡ n
-    count_of zero f = refl
-    count_of (suc n) f = ap suc (count_of n (λ i. f (suc i)))
+images_count images count f e = ap length e ∙ length-first_values count f
 
 module _ (base : Base) (n : ℕ) (modulus : List ℕ) (positive : 0 < n) (shape : IsTopShape base (n - 1) modulus) where
   unit_in : (j : ℕ) → j < n → IsElem (top_ops base (n - 1) modulus) (residue_unit (ops_of base) (top_places (ops_of base) (n - 1)) j)

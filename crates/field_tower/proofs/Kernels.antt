@@ -1,5 +1,5 @@
 -- The kernel of a linear map of residues, from the relations of the rows of its coefficients.
-use Rattle.std.proofs.Common.{◌≡◌, ℕ, suc, ◌+◌, ◌-◌, ◌<◌, ◌≤◌, inl, inr, Bool, true, false, List, length, get_or, sym, refl, ap, ap₂, subst, ◌∙◌, arith, eq-eqb, [], ◌∷◌, zero, take, get_or-take, Option, Some, None, MatchOption, nat_eq, cond}
+use Rattle.std.proofs.Common.{◌≡◌, ℕ, suc, ◌+◌, ◌-◌, ◌<◌, ◌≤◌, inl, inr, true, List, length, get_or, sym, refl, ap, ap₂, subst, ◌∙◌, arith, eq-eqb, [], ◌∷◌, zero, take, get_or-take, Option, Some, None, MatchOption, nat_eq, cond}
 use Rattle.std.proofs.lemmas.List.{length-take-le}
 use Rattle.std.proofs.lemmas.Bool.{and_from, cases_lt, cond_both}
 use Rattle.ring_core.specs.Ring.{RingOps, IsElem, IsRing}
@@ -20,7 +20,9 @@ use Rattle.residue_field.proofs.Acceptance.{power_places, moved_places}
 use Rattle.ring_core.proofs.PowerLaws.{power_in}
 use Rattle.field_tower.specs.Places.{IsModulus, IsStored, stored, stored_ops}
 use Rattle.field_tower.specs.Constants.{IsFieldOfCodes}
-use Rattle.field_tower.specs.Kernel.{image_of, letter_power, image_row, row_residue, AreLow, IsAbove, HasLowKernel, IsInKernel}
+use Rattle.field_tower.specs.declared.accept.LinearMap.{LinearMap}
+use Rattle.field_tower.specs.declared.accept.LinearMap.TheVariants.{Power, Difference}
+use Rattle.field_tower.specs.Kernel.{image_of, letter_power, image_row, row_residue, AreLow, IsAbove, low_count, HasLowKernel, IsInKernel}
 use Rattle.field_tower.proofs.Stored.{fits_of, modulus_monic, stores_of, stored_ring, stored_in, stored-low, elem_of, stored_of}
 
 -- a place below the length, with any element for a place past it
@@ -105,72 +107,72 @@ module _ (r : RingOps ℕ) (q : ℕ) (codes : IsFieldOfCodes r q) (modulus : Lis
         ap (λ m. coeff r (stored r m (entry r rows i)).0 j) degree_before
         ∙ stored-low r d (fits_of r codes.ring modulus monic) (entry r rows i) j (place_next j l)
 
-  module _ (less : Bool) where
-    image_in_of : (b : Bool) (x : TopElem) → IsElem (stored_ops r modulus) x → IsElem (stored_ops r modulus) (image_of (stored_ops r modulus) q b x)
-    image_in_of false x e = power_in (stored_ops r modulus) ring x q e
-    image_in_of true x e =
+  module _ (map : LinearMap) where
+    image_in_of : (b : LinearMap) (x : TopElem) → IsElem (stored_ops r modulus) x → IsElem (stored_ops r modulus) (image_of (stored_ops r modulus) q b x)
+    image_in_of Power x e = power_in (stored_ops r modulus) ring x q e
+    image_in_of Difference x e =
         ring.closed.add_in _ _ (power_in (stored_ops r modulus) ring x q e) (ring.closed.neg_in x e)
 
-    pub image_in : (x : TopElem) → IsElem (stored_ops r modulus) x → IsElem (stored_ops r modulus) (image_of (stored_ops r modulus) q less x)
-    image_in = image_in_of less
+    pub image_in : (x : TopElem) → IsElem (stored_ops r modulus) x → IsElem (stored_ops r modulus) (image_of (stored_ops r modulus) q map x)
+    image_in = image_in_of map
 
-    image_sum : (b : Bool) (x : TopElem) (i : ℕ) → IsElem (stored_ops r modulus) x → i < suc d
+    image_sum : (b : LinearMap) (x : TopElem) (i : ℕ) → IsElem (stored_ops r modulus) x → i < suc d
         → coeff r (image_of (stored_ops r modulus) q b x).0 i
         ≡ sum_below r (suc d) (λ j. r.mul (coeff r x.0 j) (coeff r (image_of (stored_ops r modulus) q b (residue_unit r (top_places r d) j)).0 i))
     unfolding stored_ops
-    image_sum false = power_places r codes.ring codes.commutes d _ (modulus_monic r codes.ring modulus monic) (top_places r d) places q codes.finite
-    image_sum true = moved_places r codes.ring codes.commutes d _ (modulus_monic r codes.ring modulus monic) (top_places r d) places q codes.finite
+    image_sum Power = power_places r codes.ring codes.commutes d _ (modulus_monic r codes.ring modulus monic) (top_places r d) places q codes.finite
+    image_sum Difference = moved_places r codes.ring codes.commutes d _ (modulus_monic r codes.ring modulus monic) (top_places r d) places q codes.finite
 
     -- the coefficients of an image
     image_places : (x : TopElem) (i : ℕ) → IsElem (stored_ops r modulus) x → i < n
-        → coeff r (image_of (stored_ops r modulus) q less x).0 i
-        ≡ sum_below r n (λ j. r.mul (coeff r x.0 j) (coeff r (image_of (stored_ops r modulus) q less (letter_power r n j)).0 i))
+        → coeff r (image_of (stored_ops r modulus) q map x).0 i
+        ≡ sum_below r n (λ j. r.mul (coeff r x.0 j) (coeff r (image_of (stored_ops r modulus) q map (letter_power r n j)).0 i))
     image_places x i e l =
-        image_sum less x i e (place_next i l)
-        ∙ ap₂ (λ k m. sum_below r k (λ j. r.mul (coeff r x.0 j) (coeff r (image_of (stored_ops r modulus) q less (residue_unit r (top_places r m) j)).0 i))) degree_next (sym degree_before)
+        image_sum map x i e (place_next i l)
+        ∙ ap₂ (λ k m. sum_below r k (λ j. r.mul (coeff r x.0 j) (coeff r (image_of (stored_ops r modulus) q map (residue_unit r (top_places r m) j)).0 i))) degree_next (sym degree_before)
 
     row : ℕ → List ℕ
-    row = image_row r q modulus less
+    row = image_row r q modulus map
 
-    row_place : (j i : ℕ) → coeff r (row j) i ≡ coeff r (image_of (stored_ops r modulus) q less (letter_power r n j)).0 i
+    row_place : (j i : ℕ) → coeff r (row j) i ≡ coeff r (image_of (stored_ops r modulus) q map (letter_power r n j)).0 i
     unfolding row
     row_place j i =
-        coeff-first_values r n (coeff r (image_of (stored_ops r modulus) q less (letter_power r n j)).0)
+        coeff-first_values r n (coeff r (image_of (stored_ops r modulus) q map (letter_power r n j)).0)
         (residue_past _ (image_in _ (letter_power_in j))) i
 
     row_shape : (j : ℕ) → is_row r n (row j) ≡ true
     unfolding row
     row_shape j =
         and_from _ _ (eq-eqb _ n (length-first_values n _))
-        (elems-first_values r n (coeff r (image_of (stored_ops r modulus) q less (letter_power r n j)).0)
+        (elems-first_values r n (coeff r (image_of (stored_ops r modulus) q map (letter_power r n j)).0)
         (λ i l. residue_place_in _ (image_in _ (letter_power_in j)) i))
 
     -- the part of an image that a row takes
-    pub image_taken : (j : ℕ) (x : TopElem) → x ≡ image_of (stored_ops r modulus) q less (letter_power r n j) → length x.0 ≡ WIDTH → take n x.0 ≡ image_row r q modulus less j
+    pub image_taken : (j : ℕ) (x : TopElem) → x ≡ image_of (stored_ops r modulus) q map (letter_power r n j) → length x.0 ≡ WIDTH → take n x.0 ≡ image_row r q modulus map j
     image_taken j x e width =
         let fits : n ≤ length x.0 = subst (λ k. n ≤ k) (sym width) degree_fits in
         values_by_coeffs r (take n x.0) n (coeff r x.0) (length-take-le n x.0 fits) (λ i l. get_or-take n x.0 i r.zero l)
         ∙ ap (λ y. first_values n (coeff r y.0)) e
 
-    module _ (rows : List (List ℕ)) (are : rows ≡ first_values n (image_row r q modulus less)) where
+    module _ (rows : List (List ℕ)) (are : rows ≡ first_values n (image_row r q modulus map)) where
       pub rows_count : length rows ≡ n
-      rows_count = ap length are ∙ length-first_values n (image_row r q modulus less)
+      rows_count = ap length are ∙ length-first_values n (image_row r q modulus map)
 
       rows_is : (j : ℕ) → j < n → row_at rows j ≡ row j
       unfolding row
-      rows_is j l = ap (λ u. row_at u j) are ∙ at-first_values n (image_row r q modulus less) j [] l
+      rows_is j l = ap (λ u. row_at u j) are ∙ at-first_values n (image_row r q modulus map) j [] l
 
       pub rows_shaped : are_rows r n rows ≡ true
       rows_shaped =
           rows_by_places r n rows (λ j (l : j < length rows).
           ap (is_row r n) (rows_is j (subst (λ k. j < k) rows_count l)) ∙ row_shape j)
 
-      rows_entry : (j i : ℕ) → j < n → entry r rows j i ≡ coeff r (image_of (stored_ops r modulus) q less (letter_power r n j)).0 i
+      rows_entry : (j i : ℕ) → j < n → entry r rows j i ≡ coeff r (image_of (stored_ops r modulus) q map (letter_power r n j)).0 i
       rows_entry j i l = ap (λ u. coeff r u i) (rows_is j l) ∙ row_place j i
 
       -- the coefficients of the image, by the rows
       combined_image : (x : TopElem) (c : ℕ → ℕ) → IsElem (stored_ops r modulus) x → ((j : ℕ) → j < n → c j ≡ coeff r x.0 j)
-          → (i : ℕ) → i < n → combined r (length rows) c (entry r rows) i ≡ coeff r (image_of (stored_ops r modulus) q less x).0 i
+          → (i : ℕ) → i < n → combined r (length rows) c (entry r rows) i ≡ coeff r (image_of (stored_ops r modulus) q map x).0 i
       combined_image x c e same i l =
           ap (λ k. combined r k c (entry r rows) i) rows_count
           ∙ sum_same r codes.ring n _ _ (λ j m. ap₂ r.mul (same j m) (rows_entry j i m))
@@ -183,12 +185,12 @@ module _ (r : RingOps ℕ) (q : ℕ) (codes : IsFieldOfCodes r q) (modulus : Lis
           ap (r.mul (c j)) (rows_entry j i m ∙ residue_past _ (image_in _ (letter_power_in j)) i l)
           ∙ ap (λ z. z.0) (mul_zero (elements codes.ring) (c j, inside j)))
 
-      module _ (low : ℕ) (basis : List (List ℕ)) (is : IsEchelonBasis r (length rows) (IsRelation r rows) basis) where
+      module _ (basis : List (List ℕ)) (is : IsEchelonBasis r (length rows) (IsRelation r rows) basis) where
         pub basis_shaped : are_rows r n basis ≡ true
         basis_shaped = subst (λ k. are_rows r k basis ≡ true) rows_count is.shape
 
         -- a row of the kernel has the image zero
-        row_image : (k : ℕ) → k < length basis → image_of (stored_ops r modulus) q less (row_residue r n basis k) ≡ (stored_ops r modulus).zero
+        row_image : (k : ℕ) → k < length basis → image_of (stored_ops r modulus) q map (row_residue r n basis k) ≡ (stored_ops r modulus).zero
         row_image k l =
             let x = row_residue r n basis k in
             let x_in = row_residue_in basis basis_shaped k in
@@ -199,14 +201,14 @@ module _ (r : RingOps ℕ) (q : ℕ) (codes : IsFieldOfCodes r q) (modulus : Lis
             sym (combined_image x (coeff r (row_at basis k)) x_in (λ j b. sym (row_residue_place basis basis_shaped k j b)) i m)
             ∙ relation i ∙ sym (zero_place i))
 
-        pub kernel_above : (x : TopElem) → IsAbove r n low basis x → IsInKernel r q modulus less low x
+        pub kernel_above : (x : TopElem) → IsAbove r n (low_count map) basis x → IsInKernel r q modulus map x
         kernel_above x a = record {
           elem = subst (IsElem (stored_ops r modulus)) (sym a.is) (row_residue_in basis basis_shaped a.row);
-          image = ap (image_of (stored_ops r modulus) q less) a.is ∙ row_image a.row a.within;
+          image = ap (image_of (stored_ops r modulus) q map) a.is ∙ row_image a.row a.within;
           above = a.above;
         }
 
-        pub kernel_low : AreLow r n low basis → HasLowKernel r q modulus less low
+        pub kernel_low : AreLow r n (low_count map) basis → HasLowKernel r q modulus map
         kernel_low all x e none i l =
             elim (cases_lt i n) [
               | inr past ↦ residue_past x e i past
@@ -227,7 +229,7 @@ module _ (r : RingOps ℕ) (q : ℕ) (codes : IsFieldOfCodes r q) (modulus : Lis
                   ∙ ap (λ z. z.0) (mul_zero (elements codes.ring) (combination.by k, combination.elems k)))
             ]
 
-        pub kernel_found : (o : Option TopElem) → MatchOption o (AreLow r n low basis) (IsAbove r n low basis)
-            → MatchOption o (HasLowKernel r q modulus less low) (IsInKernel r q modulus less low)
+        pub kernel_found : (o : Option TopElem) → MatchOption o (AreLow r n (low_count map) basis) (IsAbove r n (low_count map) basis)
+            → MatchOption o (HasLowKernel r q modulus map) (IsInKernel r q modulus map)
         kernel_found None all = kernel_low all
         kernel_found (Some x) a = kernel_above x a

@@ -1,5 +1,5 @@
 -- What acceptance finds of residues: zero and constants by their places, and pairs.
-use Rattle.std.proofs.Common.{inl, inr, ◌≡◌, ◌≢◌, ℕ, zero, suc, ◌-◌, ◌<◌, ◌≤◌, true, false, List, length, sym, refl, ap, subst, ◌∙◌, arith}
+use Rattle.std.proofs.Common.{inl, inr, ◌≡◌, ◌≢◌, ℕ, zero, suc, ◌-◌, ◌<◌, ◌≤◌, List, length, sym, refl, ap, subst, ◌∙◌, arith}
 use Rattle.ring_core.specs.Ring.{RingOps, IsElem, IsRing}
 use Rattle.ring_core.specs.Coeffs.{coeff}
 use Rattle.ring_core.specs.Powers.{power_of}
@@ -15,6 +15,7 @@ use Rattle.residue_field.proofs.Embedded.{residue_accepted}
 use Rattle.residue_field.proofs.Acceptance.{roots_product}
 use Rattle.field_tower.specs.Places.{IsModulus, stored_ops}
 use Rattle.field_tower.specs.Constants.{IsFieldOfCodes}
+use Rattle.field_tower.specs.declared.accept.LinearMap.TheVariants.{Power, Difference}
 use Rattle.field_tower.specs.Kernel.{IsLow, HasLowKernel}
 use Rattle.field_tower.proofs.Stored.{modulus_monic, stores_of, stored_ring}
 use Rattle.field_tower.proofs.StoredValues.{constant_at_in, constant_in}
@@ -100,7 +101,7 @@ module _ (r : RingOps ℕ) (q : ℕ) (codes : IsFieldOfCodes r q) (modulus : Lis
       ap (λ z. z.0) (minus_same (elements ring) u v (same_element t _ _ none))
 
   -- where only zero has the power zero, and only constants are fixed, no two nonzero residues multiply to zero
-  pub accepted : HasLowKernel r q modulus false 0 → HasLowKernel r q modulus true 1 → HasNoPair (stored_ops r modulus)
+  pub accepted : HasLowKernel r q modulus Power → HasLowKernel r q modulus Difference → HasNoPair (stored_ops r modulus)
   unfolding stored_ops
   accepted kernel fixed =
       residue_accepted r codes.ring codes.commutes d _ (modulus_monic r codes.ring modulus monic) (top_places r d) places q codes.finite

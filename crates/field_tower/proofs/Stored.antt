@@ -1,9 +1,9 @@
 -- Residues over a field of codes, stored in WIDTH places: told by their coefficients, and a ring.
-use Rattle.std.proofs.Common.{◌≡◌, ◌≢◌, inl, inr, ℕ, zero, suc, ◌+◌, ◌-◌, ◌<◌, ◌≤◌, true, false, cond, nat_lt, List, [], ◌∷◌, length, drop, sym, refl, ap, subst, ◌∙◌, arith, lt-ltb, le-ltb}
+use Rattle.std.proofs.Common.{◌≡◌, ◌≢◌, inl, inr, ℕ, zero, suc, ◌+◌, ◌-◌, ◌<◌, ◌≤◌, true, false, cond, nat_lt, List, [], ◌∷◌, length, sym, refl, ap, subst, ◌∙◌, arith, lt-ltb, le-ltb}
 use mathlib.Core.Path.{fun_ext}
-use Rattle.std.proofs.lemmas.Bool.{and_parts, and_from, and_left, and_right, cond-true, cond-false, cases_lt}
+use Rattle.std.proofs.lemmas.Bool.{and_from, and_left, and_right, cond-true, cond-false, cases_lt}
 use Rattle.ring_core.specs.Ring.{RingOps, IsElem, IsRing, IsCommutative}
-use Rattle.ring_core.specs.Coeffs.{coeff, are_elems, first_values}
+use Rattle.ring_core.specs.Coeffs.{coeff, first_values}
 use Rattle.ring_core.proofs.Coefficients.{elem_read, coeff_past, values-coeff, coeff-first_values}
 use Rattle.ring_core.proofs.FirstValues.{values_same}
 use Rattle.residue_field.specs.declared.TopElem.{TopElem}
@@ -18,11 +18,6 @@ abbrev pub top_elem : List ℕ → TopElem
 top_elem u = record { 0 = u }
 
 module _ {E : Type 0} (r : RingOps E) where
-  pub elems_drop : (n : ℕ) (u : List E) → are_elems r u ≡ true → are_elems r (drop n u) ≡ true
-  elems_drop zero u e = e
-  elems_drop (suc n) [] e = refl
-  elems_drop (suc n) (x ∷ xs) e = elems_drop n xs (and_parts _ _ e).1
-
   pub zeros_all : (u : List E) → ((k : ℕ) → k < length u → r.same (coeff r u k) r.zero ≡ true) → are_zeros r u ≡ true
   zeros_all [] e = refl
   zeros_all (x ∷ xs) e = and_from _ _ (e 0 (omega arith)) (zeros_all xs (λ k (l : k < length xs). e (suc k) (omega arith)))
@@ -69,11 +64,6 @@ module _ (r : RingOps ℕ) (d : ℕ) where
   stored-low fits g i l =
       ap (λ t. coeff r t.0 i) (stored_is g)
       ∙ coeff-first_values r WIDTH (cut g) (λ j (m : WIDTH ≤ j). cut_past g j (omega arith)) i ∙ cut_low g i l
-
-  pub stored-past : suc d ≤ WIDTH → (g : ℕ → ℕ) (i : ℕ) → suc d ≤ i → coeff r (stored r d g).0 i ≡ r.zero
-  stored-past fits g i l =
-      ap (λ t. coeff r t.0 i) (stored_is g)
-      ∙ coeff-first_values r WIDTH (cut g) (λ j (m : WIDTH ≤ j). cut_past g j (omega arith)) i ∙ cut_past g i l
 
   pub stored_in : IsRing r → suc d ≤ WIDTH → (g : ℕ → ℕ) → ((i : ℕ) → IsElem r (g i)) → IsStored r d (stored r d g)
   unfolding stored

@@ -10,7 +10,7 @@ ghost use Rattle.residue_field.specs.declared.TheConstants.{WIDTH};
 ghost use Rattle.field_tower.specs.Constants.{IsFieldOfCodes};
 ghost use Rattle.field_tower.specs.Places.{IsModulus, stored_ops};
 ghost use Rattle.field_tower.specs.Pairs.{IsPair};
-ghost use Rattle.field_tower.specs.Kernel.{image_of, letter_power, image_row, IsLow, row_residue, AreLow, IsAbove, HasLowKernel, IsInKernel};
+ghost use Rattle.field_tower.specs.Kernel.{image_of, letter_power, image_row, IsLow, row_residue, AreLow, IsAbove, low_count, HasLowKernel, IsInKernel};
 
 use super::pair::{factor_pair, power_pair};
 use super::places;
@@ -31,26 +31,49 @@ pub(crate) fn unit<F: Field<Elem = Code>>(field: &F, n: usize, j: usize) -> TopE
     TopElem(list)
 }
 
-/// The power of `x` by `q`, less `x` where `less` is true.
+/// A map of residues that is linear over the `q` constants. The kernels of both tell whether the residues
+/// are a field.
+#[derive(Clone, Copy)]
+pub(crate) enum LinearMap {
+    /// The power by `q`, which in a field is zero only at zero.
+    Power,
+    /// The power by `q` less the residue, which in a field is zero only at constants.
+    Difference,
+}
+
+impl LinearMap {
+    /// How many places, from the lowest on, the kernel uses in a field.
+    fn low_places(self) -> usize
+        ensures { result ≡ low_count self }
+    {
+        match self {
+            LinearMap::Power => 0,
+            LinearMap::Difference => 1,
+        }
+    }
+}
+
+/// The image of `x`.
 fn image<F: Field<Elem = Code>>(
     field: &F,
     q: u32,
     modulus: &[Code],
-    less: bool,
+    map: LinearMap,
     x: TopElem,
 ) -> TopElem
     requires monic { IsModulus (F.ops field.now) modulus.now }
     requires constants { IsFieldOfCodes (F.ops field.now) q }
     requires elem { IsElem (stored_ops (F.ops field.now) modulus.now) x }
-    ensures value { result ≡ image_of (stored_ops (F.ops field.now) modulus.now) q less x }
+    ensures value { result ≡ image_of (stored_ops (F.ops field.now) modulus.now) q map x }
     ensures width { length result.0 ≡ WIDTH }
 {
     let power = places::power(field, modulus, x, q);
-    if less {
-        let n = modulus.len() - 1;
-        places::add(field, n, power, places::neg(field, n, x))
-    } else {
-        power
+    match map {
+        LinearMap::Power => power,
+        LinearMap::Difference => {
+            let n = modulus.len() - 1;
+            places::add(field, n, power, places::neg(field, n, x))
+        }
     }
 }
 
@@ -60,17 +83,17 @@ fn image_rows<F: Field<Elem = Code>>(
     field: &F,
     q: u32,
     modulus: &[Code],
-    less: bool,
+    map: LinearMap,
 ) -> Result<Rows<Code>, NoMemory>
     requires monic { IsModulus (F.ops field.now) modulus.now }
     requires constants { IsFieldOfCodes (F.ops field.now) q }
     ensures width { IfOk result (λ v. v.width ≡ length modulus.now - 1) }
-    ensures rows { IfOk result (λ v. v.rows ≡ first_values (length modulus.now - 1) (image_row (F.ops field.now) q modulus.now less)) }
+    ensures rows { IfOk result (λ v. v.rows ≡ first_values (length modulus.now - 1) (image_row (F.ops field.now) q modulus.now map)) }
 {
     let n = modulus.len() - 1;
     let mut rows = Rows::new(alloc, n);
     for j in 0..n {
-        let image = image(field, q, modulus, less, unit(field, n, j));
+        let image = image(field, q, modulus, map, unit(field, n, j));
         rows.push(&image.0[..n])?;
     }
     Ok(rows)
@@ -132,23 +155,22 @@ fn find_above<F: Field<Elem = Code>>(
     None
 }
 
-/// A residue with the image zero that is not zero from the place `low` on, None where there is none.
+/// A residue with the image zero that is not zero past the low places, None where there is none.
 fn find_in_kernel<F: Field<Elem = Code>>(
     alloc: Global,
     field: &F,
     q: u32,
     modulus: &[Code],
-    less: bool,
-    low: usize,
+    map: LinearMap,
 ) -> Result<Option<TopElem>, NoMemory>
     requires monic { IsModulus (F.ops field.now) modulus.now }
     requires constants { IsFieldOfCodes (F.ops field.now) q }
     ensures { let r = F.ops field.now in
-        IfOk result (λ o. MatchOption o (HasLowKernel r q modulus.now less low) (IsInKernel r q modulus.now less low)) }
+        IfOk result (λ o. MatchOption o (HasLowKernel r q modulus.now map) (IsInKernel r q modulus.now map)) }
 {
-    let rows = image_rows(alloc, field, q, modulus, less)?;
+    let rows = image_rows(alloc, field, q, modulus, map)?;
     let relations = kernel(alloc, field, &rows)?;
-    Ok(find_above(field, modulus.len() - 1, low, &relations))
+    Ok(find_above(field, modulus.len() - 1, map.low_places(), &relations))
 }
 
 /// Two nonzero residues modulo `modulus` whose product is zero, over a field of `q` constants; None
@@ -165,10 +187,10 @@ pub(crate) fn find_pair<F: Field<Elem = Code>>(
     ensures { let t = stored_ops (F.ops field.now) modulus.now in
         IfOk result (λ o. MatchOption o (HasNoPair t) (λ pair. IsPair t pair.0 pair.1)) }
 {
-    if let Some(x) = find_in_kernel(alloc, field, q, modulus, false, 0)? {
+    if let Some(x) = find_in_kernel(alloc, field, q, modulus, LinearMap::Power)? {
         return Ok(Some(power_pair(field, q, modulus, x)));
     }
-    if let Some(x) = find_in_kernel(alloc, field, q, modulus, true, 1)? {
+    if let Some(x) = find_in_kernel(alloc, field, q, modulus, LinearMap::Difference)? {
         return Ok(Some(factor_pair(field, q, modulus, x)));
     }
     Ok(None)

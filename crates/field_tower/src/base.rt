@@ -31,6 +31,7 @@ pub struct BaseField {
     s: u32,
     q: usize,
     modulus: Vec<Code>,
+    // the tables have at most `q^2` members each, and are made once
     sums: Vec<Code>,
     products: Vec<Code>,
     negatives: Vec<Code>,
@@ -111,6 +112,7 @@ impl BaseField {
         self.q as u32
     }
 
+    /// The product of two codes, from the table.
     fn product(&self, a: Code, b: Code) -> Code
         requires left { IsElem (ops_of self.now) a }
         requires right { IsElem (ops_of self.now) b }

@@ -77,9 +77,10 @@ fn step<F: Field>(field: &F, modulus: &[F::Elem], c: F::Elem, b: &[F::Elem], out
     }
 }
 
-/// Puts the product of the residues `a` and `b` in `out`, all lowest coefficient first. The modulus is
-/// monic of degree `n`, one less than its length; `a` and `b` are zero from place `n` on, and `out`
-/// keeps what stands there. Takes no memory, and makes at most `2 n^2` products of coefficients.
+/// Puts the product of the residues `a` and `b` in `out`, all lowest coefficient first. The modulus has
+/// the degree `n`, one less than its length: its top coefficient is taken to be one, and is never read.
+/// `a` and `b` are zero from place `n` on, and `out` keeps what stands there. Takes no memory, and makes
+/// at most `2 n^2` products of coefficients.
 pub fn multiply<F: Field>(
     field: &F,
     modulus: &[F::Elem],

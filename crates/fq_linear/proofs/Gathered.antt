@@ -61,7 +61,7 @@ module _ {E : Type 0} (r : RingOps E) (h : IsRing r) (w cut : ℕ) (index : List
   low_shape j m l =
       let s = number_of j m in
       ap (is_row r cut) (low_some w cut index cells j s.0 s.1)
-      ∙ and_from _ _ (eq-eqb _ cut (cut_length s.0 (t.stored.is j s.0 s.1))) (elems_range r cells (s.0 * w) (s.0 * w + cut) t.elems)
+      ∙ and_from _ _ (eq-eqb _ cut (cut_length s.0 (t.stored.is j s.0 s.1))) (elems_range r h cells (s.0 * w) (s.0 * w + cut) t.elems)
 
   -- and the members of the slot, which has zeros past its lead
   pub low_same : (j : ℕ) → is_lead index j ≡ true → j < cut → (k : ℕ) → coeff r (low_cells w cut index cells j) k ≡ slot r w index cells j k

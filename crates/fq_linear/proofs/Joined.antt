@@ -26,7 +26,7 @@ module _ {E : Type 0} (r : RingOps E) (h : IsRing r) (w : ℕ) (index : List (Op
     (ri : are_elems r row ≡ true) (wide : length row ≡ w) (t : IsTable r w index cells) (g : CanJoin r index row l)
     (n : JoinedTo r (is_lead index) l (coeff r row) (slot r w index cells) mark after) (ai : AllIn r after) where
   si : AllIn r (slot r w index cells)
-  si = slot_in r h.closed.zero_in w index cells t.elems
+  si = slot_in r h w index cells t.elems
 
   yi : AreIn r (coeff r row)
   yi = elem_read r row h.closed.zero_in ri

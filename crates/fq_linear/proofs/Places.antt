@@ -1,40 +1,23 @@
 -- Lists of elements, and writes to them place by place.
-use Rattle.std.proofs.Common.{◌≡◌, ◌≢◌, ℕ, zero, suc, ◌+◌, ◌-◌, ◌<◌, ◌≤◌, inl, inr, Bool, true, false, List, [], ◌∷◌, ◌++◌, length, get_or, set, take, drop, replicate, refl, sym, ◌∙◌, ap, ap₂, subst, arith, get_or-set_same, get_or-set_other, get_or-take, get_or-drop, slice_range, nat_lt, ltb-true, ltb-false, true≢false, MatchOption, Option, Some, zero-add}
-use Rattle.std.proofs.lemmas.Bool.{and_parts, and_from}
+use Rattle.std.proofs.Common.{◌≡◌, ◌≢◌, ℕ, zero, suc, ◌+◌, ◌-◌, ◌<◌, ◌≤◌, inl, inr, Bool, true, List, [], ◌∷◌, ◌++◌, length, get_or, set, take, drop, replicate, refl, sym, ◌∙◌, ap, ap₂, subst, arith, get_or-set_same, get_or-set_other, get_or-take, get_or-drop, slice_range, nat_lt, ltb-true, ltb-false, MatchOption, Option, Some, zero-add}
+use Rattle.std.proofs.lemmas.Bool.{and_from}
 use Rattle.std.proofs.lemmas.List.{replicate-append-replicate}
 use Rattle.ring_core.specs.Ring.{RingOps, IsElem, IsRing}
 use Rattle.ring_core.specs.Coeffs.{coeff, are_elems}
 use Rattle.ring_core.proofs.Coefficients.{elem_read, elems_take}
 use Rattle.ring_core.proofs.Carrier.{elements, add_zero, zero_mul, mul_zero, neg_zero}
+use Rattle.ring_core.proofs.PowerLaws.{elems_drop}
 use Rattle.linear_algebra.proofs.Sums.{by_bool, same_or_other}
 use Rattle.ring_core.specs.Field.{IsField}
 use Rattle.fq_linear.specs.Places.{IsWritten, IsTop, IsMonic, cleared}
 
 module _ {E : Type 0} (r : RingOps E) where
-  pub elems_drop : (n : ℕ) (u : List E) → are_elems r u ≡ true → are_elems r (drop n u) ≡ true
-  elems_drop zero u e = e
-  elems_drop (suc n) [] e = refl
-  elems_drop (suc n) (x ∷ xs) e = elems_drop n xs (and_parts _ _ e).1
-
-  pub elems_range : (u : List E) (a b : ℕ) → are_elems r u ≡ true → are_elems r (slice_range u a b) ≡ true
-  elems_range u a b e = elems_take r (b - a) (drop a u) (elems_drop a u e)
-
-  pub elems_set : (u : List E) (i : ℕ) (x : E) → are_elems r u ≡ true → IsElem r x → are_elems r (set u i x) ≡ true
-  elems_set [] i x e h = refl
-  elems_set (y ∷ ys) zero x e h = and_from _ _ h (and_parts _ _ e).1
-  elems_set (y ∷ ys) (suc i) x e h = and_from _ _ (and_parts _ _ e).0 (elems_set ys i x (and_parts _ _ e).1 h)
-
   pub elems_replicate : (n : ℕ) (x : E) → IsElem r x → are_elems r (replicate n x) ≡ true
   elems_replicate zero x h = refl
   elems_replicate (suc n) x h = and_from _ _ h (elems_replicate n x h)
 
 pub replicate_more : {T : Type 0} (n : ℕ) (x : T) → replicate n x ++ x ∷ [] ≡ replicate (n + 1) x
 replicate_more n x = replicate-append-replicate n 1 x
-
-pub replicate_zero : {T : Type 0} (n i : ℕ) (x : T) → get_or (replicate n x) i x ≡ x
-replicate_zero zero i x = refl
-replicate_zero (suc n) zero x = refl
-replicate_zero (suc n) (suc i) x = replicate_zero n i x
 
 -- a place of a part of a list
 pub range_place : {T : Type 0} (u : List T) (a b k : ℕ) (d : T) → k < b - a → get_or (slice_range u a b) k d ≡ get_or u (a + k) d
@@ -86,6 +69,9 @@ module _ {E : Type 0} (d : E) where
   }
 
 module _ {E : Type 0} (r : RingOps E) (h : IsRing r) where
+  pub elems_range : (u : List E) (a b : ℕ) → are_elems r u ≡ true → are_elems r (slice_range u a b) ≡ true
+  elems_range u a b e = elems_take r (b - a) (drop a u) (elems_drop r h a u e)
+
   -- a + b 0 = a
   pub add_times_zero : (a b z : E) → IsElem r a → IsElem r b → z ≡ r.zero → r.add a (r.mul b z) ≡ a
   add_times_zero a b z ai bi e =
@@ -126,9 +112,6 @@ module _ {E : Type 0} (r : RingOps E) (h : IsRing r) where
   -- what a comparison tells
   pub same_tells : (a b : E) (t : Bool) → IsElem r a → IsElem r b → t ≡ r.same a b → t ≡ true → a ≡ b
   same_tells a b t ai bi e q = h.equal.same_eq a b ai bi (sym e ∙ q)
-
-  pub other_tells : (a b : E) (t : Bool) → IsElem r a → t ≡ r.same a b → t ≡ false → a ≢ b
-  other_tells a b t ai e q s = true≢false (sym (h.equal.same_refl a ai) ∙ ap (r.same a) s ∙ sym e ∙ q)
 
 pub elem_as : {E : Type 0} (r : RingOps E) (a b : E) → a ≡ b → IsElem r b → IsElem r a
 elem_as r a b e h = ap r.is_elem e ∙ h

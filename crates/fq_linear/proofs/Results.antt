@@ -64,7 +64,7 @@ module _ {E : Type 0} (r : RingOps E) (inv : E → Option E) (field : IsField r 
       let e = subst (λ m. IsEliminated r m (length rows) (augmented r 0 (entry r rows)) index cells) (zero-add w) t in
       let z = h.closed.zero_in in
       let vi = rows_in r z w rows ri in
-      let si = slot_in r z w index cells e.table.elems in
+      let si = slot_in r h w index cells e.table.elems in
       let xi = elem_read r x z (row_elems r w x xr) in (
         λ s. combines_into r h (length rows) w (entry r rows) (slot r w index cells) (coeff r x) vi si xi
             (λ i l. combines_as r h w (slot r w index cells) (augmented r 0 (entry r rows) i) (entry r rows i) (λ k. sym (augmented_zero (entry r rows) i k)) (e.holds i l)) s,
@@ -78,7 +78,7 @@ module _ {E : Type 0} (r : RingOps E) (inv : E → Option E) (field : IsField r 
   echelon_is w rows index cells ri t basis b =
       let e = subst (λ m. IsEliminated r m (length rows) (augmented r 0 (entry r rows)) index cells) (zero-add w) t in
       subst (IsEchelonBasis r w (IsCombination r rows)) (sym b)
-      (basis_of r inv field w w (is_lead index) (slot r w index cells) (slot_in r h.closed.zero_in w index cells e.table.elems) e.table.reduced
+      (basis_of r inv field w w (is_lead index) (slot r w index cells) (slot_in r h w index cells e.table.elems) e.table.reduced
       (low_cells w w index cells) (low_shape r h w w index cells e.table (omega arith)) (low_same r h w w index cells e.table (omega arith))
       (IsCombination r rows) (echelon_spans w rows index cells ri t))
 
@@ -97,7 +97,7 @@ module _ {E : Type 0} (r : RingOps E) (inv : E → Option E) (field : IsField r 
     v = rows_of r (entry r rows) vi
 
     si : AllIn r slots
-    si = slot_in r h.closed.zero_in (n + w) index cells t.table.elems
+    si = slot_in r h (n + w) index cells t.table.elems
 
     ai : AllIn r (augmented r n (entry r rows))
     ai = augmented_in r h.closed.zero_in h.closed.one_in n (entry r rows) vi
@@ -194,7 +194,7 @@ module _ {E : Type 0} (r : RingOps E) (inv : E → Option E) (field : IsField r 
         let u = slice_range cells (i * (n + w)) (i * (n + w) + k) in
         first_dependence_is k u l (ap is_some e) none
         (cut_length r h (n + w) k index cells t.table (omega arith) i (t.table.stored.is k i e))
-        (elems_range r cells (i * (n + w)) (i * (n + w) + k) t.table.elems)
+        (elems_range r h cells (i * (n + w)) (i * (n + w) + k) t.table.elems)
         (λ m b. range_place cells (i * (n + w)) (i * (n + w) + k) m r.zero (omega arith)
         ∙ sym (ap (λ o. coeff r (numbered_cells (n + w) (n + w) cells o) m) e ∙ range_place cells (i * (n + w)) (i * (n + w) + (n + w)) m r.zero (omega arith)))
 

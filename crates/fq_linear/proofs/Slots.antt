@@ -14,18 +14,18 @@ use Rattle.fq_linear.proofs.Places.{elems_range, range_past, add_times_zero}
 use Rattle.fq_linear.proofs.Tables.{row_end}
 
 module _ {E : Type 0} (r : RingOps E) where
-  numbered_in : IsElem r r.zero → (w : ℕ) (cells : List E) → are_elems r cells ≡ true → (o : Option ℕ) (k : ℕ) → IsElem r (coeff r (numbered_cells w w cells o) k)
-  numbered_in z w cells e None k = z
-  numbered_in z w cells e (Some i) k = elem_read r (row_cells w cells i) z (elems_range r cells (i * w) (i * w + w) e) k
-
-  pub slot_in : IsElem r r.zero → (w : ℕ) (index : List (Option ℕ)) (cells : List E) → are_elems r cells ≡ true → AllIn r (slot r w index cells)
-  slot_in z w index cells e j k = numbered_in z w cells e (row_number index j) k
-
   pub numbered_past : (w : ℕ) (cells : List E) (o : Option ℕ) (k : ℕ) → w ≤ k → coeff r (numbered_cells w w cells o) k ≡ r.zero
   numbered_past w cells None k l = refl
   numbered_past w cells (Some i) k l = range_past cells (i * w) (i * w + w) k r.zero (omega arith)
 
 module _ {E : Type 0} (r : RingOps E) (h : IsRing r) where
+  numbered_in : (w : ℕ) (cells : List E) → are_elems r cells ≡ true → (o : Option ℕ) (k : ℕ) → IsElem r (coeff r (numbered_cells w w cells o) k)
+  numbered_in w cells e None k = h.closed.zero_in
+  numbered_in w cells e (Some i) k = elem_read r (row_cells w cells i) h.closed.zero_in (elems_range r h cells (i * w) (i * w + w) e) k
+
+  pub slot_in : (w : ℕ) (index : List (Option ℕ)) (cells : List E) → are_elems r cells ≡ true → AllIn r (slot r w index cells)
+  slot_in w index cells e j k = numbered_in w cells e (row_number index j) k
+
   -- a row cleared by one of the table, told at every place
   pub cleared_some : (w j n i : ℕ) (o : Option ℕ) (cells row new : List E) → o ≡ Some i → n ≡ w → length row ≡ w → are_elems r cells ≡ true → are_elems r row ≡ true
       → IsWritten r.zero 0 n (cleared r j (coeff r (row_cells w cells i)) (λ k. coeff r row (0 + k))) row new

@@ -1,5 +1,5 @@
 -- The steps of the elimination's loops.
-use Rattle.std.proofs.Common.{◌≡◌, ℕ, ◌+◌, ◌-◌, ◌<◌, inl, inr, Bool, true, false, Option, Some, None, is_some, cond, nat_lt, List, length, sym, ◌∙◌, ap, arith}
+use Rattle.std.proofs.Common.{◌≡◌, ℕ, ◌+◌, ◌-◌, ◌<◌, inl, inr, Bool, true, false, Option, None, is_some, cond, nat_lt, List, length, sym, ◌∙◌, ap, arith}
 use Rattle.ring_core.specs.Ring.{RingOps, IsRing}
 use Rattle.ring_core.specs.Coeffs.{coeff, are_elems}
 use Rattle.ring_core.proofs.Carrier.{elements}
@@ -13,7 +13,7 @@ use Rattle.fq_linear.proofs.Tables.{row_at-table}
 use Rattle.fq_linear.specs.Places.{cleared, unit_row}
 use Rattle.fq_linear.specs.Elimination.{row_number, is_lead, numbered_cells, slot, IsTable, IsInserted, IsEliminated, augmented}
 use Rattle.fq_linear.proofs.Places.{add_times_zero}
-use Rattle.fq_linear.proofs.Slots.{slot_in}
+use Rattle.fq_linear.proofs.Slots.{slot_in, none_is_not}
 
 module _ {E : Type 0} (r : RingOps E) (h : IsRing r) where
   pub taken_none : (w : ℕ) (slots : ℕ → ℕ → E) (x : ℕ → E) → AllIn r slots → AreIn r x → Combines r w slots (minus r x x)
@@ -61,9 +61,6 @@ module _ {E : Type 0} (r : RingOps E) (h : IsRing r) where
       apart = λ j k l d. empty_slot w index cells e j k;
     };
   }
-    where
-      none_is_not : (i : ℕ) → None ≡ Some i → ⊥
-      none_is_not i q = cc
 
   pub eliminated_none : (w : ℕ) (rows : ℕ → ℕ → E) (index : List (Option ℕ)) (cells : List E) → AllIn r rows → length index ≡ w → are_elems r cells ≡ true
       → ((j : ℕ) → row_number index j ≡ None) → IsEliminated r w 0 rows index cells
@@ -78,8 +75,8 @@ module _ {E : Type 0} (r : RingOps E) (h : IsRing r) where
       → IsEliminated r w n rows index cells → IsTable r w mark after → ((k : ℕ) → x k ≡ rows n k)
       → IsInserted r w (slot r w index cells) (slot r w mark after) x → IsEliminated r w (n + 1) rows mark after
   eliminated_more w n rows index mark cells after x ri old t e g =
-      let bi = slot_in r h.closed.zero_in w index cells old.table.elems in
-      let ai = slot_in r h.closed.zero_in w mark after t.elems in
+      let bi = slot_in r h w index cells old.table.elems in
+      let ai = slot_in r h w mark after t.elems in
       record {
         table = t;
         within = g.adds (n + 1) rows ri (combines_as r h (n + 1) rows (rows n) x e (combines_row r h (n + 1) rows ri n (omega arith)))

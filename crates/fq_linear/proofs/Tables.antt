@@ -1,8 +1,7 @@
 -- Rows in one list of cells.
 use Rattle.linear_algebra.proofs.RowLists.{rows_at}
-use Rattle.std.proofs.Common.{◌≡◌, ℕ, zero, suc, ◌+◌, ◌-◌, ◌*◌, ◌<◌, ◌≤◌, List, [], ◌∷◌, ◌++◌, length, get_or, take, drop, refl, sym, ◌∙◌, ap, ap₂, ◌/◌, ◌%◌, mod-lt, div-add-mod', div-lt_iff_lt-mul, mul-zero, arith, true, length-drop, take_all, drop_of_length-le, add-one, mul-le-mul_right}
+use Rattle.std.proofs.Common.{◌≡◌, ℕ, zero, suc, ◌+◌, ◌-◌, ◌*◌, ◌<◌, ◌≤◌, List, [], ◌∷◌, ◌++◌, length, get_or, take, drop, sym, ◌∙◌, ap, ap₂, ◌/◌, ◌%◌, mod-lt, div-add-mod', div-lt_iff_lt-mul, mul-zero, arith, true, length-drop, take_all, drop_of_length-le, add-one, mul-le-mul_right}
 use Rattle.std.proofs.lemmas.List.{drop-append-le, length-take-le, take-append-le}
-use Rattle.ring_core.specs.Coeffs.{first_values}
 use Rattle.linear_algebra.specs.Linear.{row_at}
 use Rattle.fq_linear.specs.Table.{row_cells, table_rows}
 use Rattle.std.proofs.lemmas.Bool.{and_parts}

@@ -58,7 +58,7 @@ module _ {E : Type 0} (r : RingOps E) (h : IsRing r) where
       ∙ sym (sum_mul (length u) (λ i. r.mul (coeff r u i) (power_of r a i)) a (term_in u a elems p) p))
 
   -- one step of the rule, from the top down: `x` was read at `i - 1`
-  elems_drop : (n : ℕ) (u : List E) → are_elems r u ≡ true → are_elems r (drop n u) ≡ true
+  pub elems_drop : (n : ℕ) (u : List E) → are_elems r u ≡ true → are_elems r (drop n u) ≡ true
   elems_drop zero u e = e
   elems_drop (suc n) [] e = refl
   elems_drop (suc n) (x ∷ xs) e = elems_drop n xs (and_parts _ _ e).1

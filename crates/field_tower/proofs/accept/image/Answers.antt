@@ -24,17 +24,12 @@ add-requires-clause-right g c =
     (subst (IsElem (stored_ops r modulus)) (sym (negative_made r modulus c.neg.result c.args.x _ (omega arith) c.neg.ensures))
     (ring.closed.neg_in c.args.x c.requires.elem))
 
-pub returns-then-less-clause-value : goal.returns-then-less-clause-value
-returns-then-less-clause-value g c =
+pub returns-in-Difference-clause-value : goal.returns-in-Difference-clause-value
+returns-in-Difference-clause-value g c =
     let r = g.F.Field.ops c.args.field.now in
     let modulus = c.args.modulus.now in
     let t = stored_ops r modulus in
     let x = c.args.x in
     sum_made r modulus c.add.result c.power-power.result c.neg.result _ (omega arith) c.add.ensures
     ∙ ap₂ t.add c.power-power.ensures.value (negative_made r modulus c.neg.result x _ (omega arith) c.neg.ensures)
-    ∙ ap (λ b. image_of t c.args.q b x) (sym c.if-less.true)
-
-pub returns-else-less-clause-value : goal.returns-else-less-clause-value
-returns-else-less-clause-value g c =
-    let t = stored_ops (g.F.Field.ops c.args.field.now) c.args.modulus.now in
-    c.power-power.ensures.value ∙ ap (λ b. image_of t c.args.q b c.args.x) (sym c.if-less.false)
+    ∙ ap (λ b. image_of t c.args.q b x) (sym c.in-Difference.is)

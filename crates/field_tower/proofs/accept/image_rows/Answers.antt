@@ -18,16 +18,16 @@ loop-j-preserved g c =
     let r = g.F.Field.ops c.args.field.now in
     let q = c.args.q in
     let modulus = c.args.modulus.now in
-    let less = c.args.less in
+    let map = c.args.map in
     let j = c.loop-j.j in
-    let row = image_row r q modulus less in
+    let row = image_row r q modulus map in
     let next : suc j ≡ j + 1 = omega arith in
-    let image = c.image-image.ensures.value ∙ ap (image_of (stored_ops r modulus) q less) c.unit.ensures in
+    let image = c.image-image.ensures.value ∙ ap (image_of (stored_ops r modulus) q map) c.unit.ensures in
     record {
       width = c.push.ensures.width ∙ c.loop-j.invariant.width;
       rows =
           c.in_ok-push.ensures.rows
           ∙ ap₂ (λ u v. u ++ v ∷ []) c.loop-j.invariant.rows
-          (image_taken r q c.requires.constants modulus c.requires.monic less j c.image-image.result image c.image-image.ensures.width)
+          (image_taken r q c.requires.constants modulus c.requires.monic map j c.image-image.result image c.image-image.ensures.width)
           ∙ values_pushed j row ∙ ap (λ k. first_values k row) next;
     }

@@ -7,5 +7,5 @@ abbrev pub invariant-loop-j : goal.invariant-loop-j
 invariant-loop-j g l =
     record {
       width : l.rows.width ≡ length l.modulus - 1;
-      rows : l.rows.rows ≡ first_values l.j (image_row (g.F.Field.ops l.field) l.q l.modulus l.less);
+      rows : l.rows.rows ≡ first_values l.j (image_row (g.F.Field.ops l.field) l.q l.modulus l.map);
     }

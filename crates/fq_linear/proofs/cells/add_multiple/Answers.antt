@@ -1,5 +1,6 @@
 use Rattle.std.proofs.Common.{◌+◌, ◌<◌, length, refl, ◌∙◌, ap, ap₂, arith, length-set}
-use Rattle.fq_linear.proofs.Places.{elems_set, written_more, next_place, elem_as}
+use Rattle.ring_core.proofs.Coefficients.{elems_set}
+use Rattle.fq_linear.proofs.Places.{written_more, next_place, elem_as}
 use Rattle.fq_linear.proofs.cells.add_multiple.Goals as goal
 
 pub loop-k-preserved : goal.loop-k-preserved

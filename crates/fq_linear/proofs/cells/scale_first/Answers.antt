@@ -1,6 +1,7 @@
 use Rattle.std.proofs.Common.{◌<◌, length, sym, ◌∙◌, ap, arith, length-set, zero-add}
 use Rattle.ring_core.specs.Coeffs.{coeff}
-use Rattle.fq_linear.proofs.Places.{elems_set, written_more, next_place, elem_as}
+use Rattle.ring_core.proofs.Coefficients.{elems_set}
+use Rattle.fq_linear.proofs.Places.{written_more, next_place, elem_as}
 use Rattle.fq_linear.proofs.cells.scale_first.Goals as goal
 
 pub loop-k-preserved : goal.loop-k-preserved

@@ -6,7 +6,7 @@ use Rattle.fq_linear.proofs.Slots.{none_left, cleared_some, cleared_none}
 use Rattle.fq_linear.proofs.eliminate.clear_by_slot.Goals as goal
 
 pub clear_at-requires-clause-row : goal.clear_at-requires-clause-row
-clear_at-requires-clause-row g c = elems_range (g.F.Field.ops c.args.f.now) c.args.cells.now _ _ c.requires.table.elems
+clear_at-requires-clause-row g c = elems_range (g.F.Field.ops c.args.f.now) (g.met.F.Field.laws c.args.f.now).ring c.args.cells.now _ _ c.requires.table.elems
 
 pub returns-in-Some-clause-cleared : goal.returns-in-Some-clause-cleared
 returns-in-Some-clause-cleared g c =

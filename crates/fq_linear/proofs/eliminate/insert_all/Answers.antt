@@ -22,16 +22,17 @@ loop-i-init g c =
       cells_len = c.requires.cells_len;
       below = record { is = λ j i e. let f = c.requires.empty j in absurd (none_is_not i (sym f ∙ e)) };
       eliminated = eliminated_none r ring (c.args.offset + width) (augmented r c.args.offset (λ i. coeff r (row_cells width source i))) c.args.index.now c.args.cells.now
-          (augmented_in r z ring.closed.one_in c.args.offset _ (λ i. elem_read r (row_cells width source i) z (elems_range r source (i * width) (i * width + width) c.requires.source)))
+          (augmented_in r z ring.closed.one_in c.args.offset _ (λ i. elem_read r (row_cells width source i) z (elems_range r ring source (i * width) (i * width + width) c.requires.source)))
           c.requires.index_len c.requires.cells c.requires.empty;
     }
 
 pub insert_row-requires-clause-row : goal.insert_row-requires-clause-row
 insert_row-requires-clause-row g c =
     let r = g.F.Field.ops c.args.f.now in
-    let z = (g.met.F.Field.laws c.args.f.now).ring.closed.zero_in in
+    let ring = (g.met.F.Field.laws c.args.f.now).ring in
+    let z = ring.closed.zero_in in
     let part = row_cells c.args.width c.args.source.now c.loop-i.i in
-    let pi = elems_range r c.args.source.now (c.loop-i.i * c.args.width) (c.loop-i.i * c.args.width + c.args.width) c.requires.source in
+    let pi = elems_range r ring c.args.source.now (c.loop-i.i * c.args.width) (c.loop-i.i * c.args.width + c.args.width) c.requires.source in
     elems_written r z c.args.offset (length part) (coeff r part) c.write_unit.new.row c.write_at.new.cells c.write_unit.ensures.elems
     (λ k _. elem_read r part z pi k) (c.write_at.ensures.written r.zero)
 
@@ -57,7 +58,7 @@ loop-i-preserved g c =
       cells_len = c.insert_row.ensures.cells_len ∙ before.cells_len;
       below = c.insert_row.ensures.below;
       eliminated = eliminated_more r ring (offset + width) i rows c.loop-i.index c.insert_row.new.index c.loop-i.cells c.insert_row.new.cells (coeff r c.write_at.new.cells)
-          (augmented_in r z ring.closed.one_in offset _ (λ i. elem_read r (row_cells width source i) z (elems_range r source (i * width) (i * width + width) c.requires.source)))
+          (augmented_in r z ring.closed.one_in offset _ (λ i. elem_read r (row_cells width source i) z (elems_range r ring source (i * width) (i * width + width) c.requires.source)))
           before.eliminated (subst (λ w. IsTable r w c.insert_row.new.index c.insert_row.new.cells) wide c.insert_row.ensures.table) loads
           (subst (λ w. IsInserted r w (slot r w c.loop-i.index c.loop-i.cells) (slot r w c.insert_row.new.index c.insert_row.new.cells) (coeff r c.write_at.new.cells)) wide c.insert_row.ensures.inserted);
     }

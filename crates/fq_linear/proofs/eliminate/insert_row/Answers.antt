@@ -14,7 +14,7 @@ returns-in_default-clause-inserted g c =
     let ring = (g.met.F.Field.laws f).ring in
     let z = ring.closed.zero_in in
     let w = length c.args.row.now in
-    let si = slot_in r z w c.args.index.now c.args.cells.now c.requires.table.elems in
+    let si = slot_in r ring w c.args.index.now c.args.cells.now c.requires.table.elems in
     inserted_nothing r ring w _ _ si si (coeff r c.args.row.now) (coeff r c.reduce_row.new.row) (elem_read r c.args.row.now z c.requires.row)
     (elem_read r c.reduce_row.new.row z c.reduce_row.ensures.elems) c.reduce_row.ensures.taken
     (when_none _ _ c.top_place.result c.in_default.not-Some c.top_place.ensures)
@@ -45,7 +45,7 @@ returns-clause-inserted g c =
     let same = c.make_monic.ensures.len ∙ c.reduce_row.ensures.len in
     let zi = elem_read r c.reduce_row.new.row z c.reduce_row.ensures.elems in
     inserted_from r ring w (slot r w index cells) (slot r w c.keep_row.new.index c.keep_row.new.cells)
-    (slot_in r z w index cells c.requires.table.elems) (slot_in r z w c.keep_row.new.index c.keep_row.new.cells c.keep_row.ensures.table.elems)
+    (slot_in r ring w index cells c.requires.table.elems) (slot_in r ring w c.keep_row.new.index c.keep_row.new.cells c.keep_row.ensures.table.elems)
     (coeff r c.args.row.now) (coeff r c.reduce_row.new.row) (elem_read r c.args.row.now z c.requires.row) zi c.reduce_row.ensures.taken
     (coeff r c.make_monic.new.row) (elem_read r c.make_monic.new.row z c.make_monic.ensures.elems)
     monic.factor (coeff r c.reduce_row.new.row c.in-Some.l) monic.elem (zi c.in-Some.l) monic.is monic.back

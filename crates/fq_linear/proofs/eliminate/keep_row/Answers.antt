@@ -28,7 +28,7 @@ returns g c =
     let len = c.write_at.ensures.len ∙ c.clear_rows.ensures.len in
     let joined = joined_to r ring w c.args.count c.args.l index cells between after row t.elems c.requires.row refl inside joins.within c.requires.below c.clear_rows.ensures.cleared written in
     let elems = elems_written r z (c.args.count * w) w (coeff r row) between after c.clear_rows.ensures.elems (λ k _. elem_read r row z c.requires.row k) written in
-    let ai = slot_in r z w mark after elems in
+    let ai = slot_in r ring w mark after elems in
     record {
       cells_len = len;
       table = record {

@@ -16,7 +16,7 @@ loop-j-init g c =
     record {
       len = refl;
       elems = c.requires.row;
-      taken = taken_none r ring (length row) _ (coeff r row) (slot_in r z (length row) c.args.index.now c.args.cells.now c.requires.table.elems) (elem_read r row z c.requires.row);
+      taken = taken_none r ring (length row) _ (coeff r row) (slot_in r ring (length row) c.args.index.now c.args.cells.now c.requires.table.elems) (elem_read r row z c.requires.row);
       clear = λ k l m. absurd (omega arith);
     }
 
@@ -29,7 +29,7 @@ loop-j-preserved g c =
     let w = length c.args.row.now in
     let index = c.args.index.now in
     let cells = c.args.cells.now in
-    let si = slot_in r z w index cells c.requires.table.elems in
+    let si = slot_in r ring w index cells c.requires.table.elems in
     let yi = elem_read r c.loop-j.row z before.elems in
     let step = λ (k : ℕ). c.clear_by_slot.ensures.cleared k ∙ ap (λ n. cleared r c.loop-j.j (slot r n index cells c.loop-j.j) (coeff r c.loop-j.row) k) before.len in
     record {

@@ -22,7 +22,7 @@ returns-in_default g c =
 pub negatives-requires : goal.negatives-requires
 negatives-requires g c =
     let r = g.F.Field.ops c.args.f.now in
-    elems_range r c.deref-2.result.now (c.in-Some.i * c.len-w.result) (c.in-Some.i * c.len-w.result + c.in-Some.k)
+    elems_range r (g.met.F.Field.laws c.args.f.now).ring c.deref-2.result.now (c.in-Some.i * c.len-w.result) (c.in-Some.i * c.len-w.result + c.in-Some.k)
     (ap (are_elems r) c.deref-2.ensures.value ∙ c.in_ok-table.ensures.table.elems)
 
 pub returns : goal.returns
