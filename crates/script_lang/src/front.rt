@@ -8,7 +8,7 @@ ghost use Rattle.script_lang.specs.Grammar.{IsExponent, IsPlain, IsEnding, Reads
 use super::lexer::{Letter, Sign, Token};
 use super::sum::{Factor, Kind};
 
-/// The first token and what follows it.
+/// The first token and what follows it; None where there are no tokens.
 pub fn first(tokens: &[Token]) -> Option<(&Token, &[Token])>
     ensures { MatchOption result (tokens.now ≡ []) (λ p. tokens.now ≡ p.0.now ∷ p.1.now) }
 {
@@ -31,7 +31,7 @@ pub fn after_sign(tokens: &[Token], sign: Sign) -> Option<&[Token]>
     if *begin == sign { Some(rest) } else { None }
 }
 
-/// The number that the tokens begin with, and what follows it.
+/// The number that the tokens begin with, and what follows it; None where no number stands first.
 pub fn number(tokens: &[Token]) -> Option<(u32, &[Token])>
     ensures { MatchOption result ((n : ℕ) (rest : List Token) → tokens.now ≢ Token.Number n ∷ rest) (λ p. tokens.now ≡ Token.Number p.0 ∷ p.1.now) }
 {
@@ -44,7 +44,7 @@ pub fn number(tokens: &[Token]) -> Option<(u32, &[Token])>
     Some((*value, rest))
 }
 
-/// The letter that the tokens begin with, and what follows it.
+/// The letter that the tokens begin with, and what follows it; None where no letter stands first.
 pub fn letter(tokens: &[Token]) -> Option<(Letter, &[Token])>
     ensures { MatchOption result ((l : Letter) (rest : List Token) → tokens.now ≢ Token.Letter l ∷ rest) (λ p. tokens.now ≡ Token.Letter p.0 ∷ p.1.now) }
 {
@@ -57,7 +57,7 @@ pub fn letter(tokens: &[Token]) -> Option<(Letter, &[Token])>
     Some((*letter, rest))
 }
 
-/// The word that the tokens begin with, and what follows it.
+/// The word that the tokens begin with, and what follows it; None where no word stands first.
 pub fn word(tokens: &[Token]) -> Option<(&[u8], &[Token])>
     ensures { MatchOption result ((w : List ℕ) (rest : List Token) → tokens.now ≢ Token.Word w ∷ rest) (λ p. tokens.now ≡ Token.Word p.0.now ∷ p.1.now) }
 {
@@ -130,7 +130,8 @@ fn sign_binds(sign: Sign) -> u32
     }
 }
 
-/// The exponent of a letter, 1 where none stands, and what follows it.
+/// The exponent of a letter, 1 where none stands, and what follows it; None where `^` stands without a
+/// number after it, or where another `^` follows.
 pub fn exponent(tokens: &[Token]) -> Option<(u32, &[Token])>
     ensures found { IfSome result (λ p. Reads (IsExponent tokens.now) 3 p.1.now p.0) }
     ensures refused { IfNone result (Refuses (IsExponent tokens.now) 3) }

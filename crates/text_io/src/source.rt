@@ -7,7 +7,8 @@ use crate::Failed;
 ///
 /// A source has three meanings: `coming`, the bytes still to come, which it need not tell (`None`);
 /// `faults`, a count of faults, at most `u64::MAX`, which never falls; and `calls`, a number of
-/// calls, which never falls and which one call raises by at most 1.
+/// calls, which never falls and which one call raises by at most 1. No call changes whether the
+/// bytes are told.
 pub trait Source {
     ghost coming: { Self → Option (List ℕ) };
 
