@@ -4,8 +4,9 @@ use Rattle.std.proofs.Common.{◌≡◌, ◌≢◌, ℕ, zero, suc, ◌-◌, ◌
 use Rattle.ring_core.specs.Ring.{RingOps, IsElem, IsRing, IsCommutative}
 use Rattle.ring_core.specs.Field.{IsField}
 use Rattle.ring_core.specs.Powers.{power_of}
-use Rattle.ring_core.proofs.Carrier.{RingOn, Element, elements, same_element, mul_zero, minus_same}
+use Rattle.ring_core.proofs.Carrier.{RingOn, Element, elements, same_element, minus_same}
 use Rattle.ring_core.proofs.PowerLaws.{power_in}
+use Rattle.ring_core.proofs.Degrees.{no_zero_divisors}
 use Rattle.finite_ring.specs.Finite.{HasNoPair, inverse_by_power, root_product, IsNumbered}
 use Rattle.finite_ring.proofs.Powers.{power_value}
 use Rattle.finite_ring.proofs.Counted.{IsCounted, NoPair, counted_of, no_pair_on}
@@ -51,17 +52,6 @@ module _ {E : Type 0} (r : RingOps E) (h : IsRing r) (commutes : IsCommutative r
             ));
       }
 
--- In a field no two nonzero elements multiply to zero.
-pub field_no_pair : {E : Type 0} (r : RingOps E) (inv : E → Option E) → IsField r inv → HasNoPair r
-field_no_pair {E} r inv h a b p s na nb e = from_inverse (inv a) (h.inv_is a p)
-  where
-    from_inverse : (o : Option E) → MatchOption o (a ≡ r.zero) (λ c. IsElem r c × (r.mul a c ≡ r.one)) → ⊥
-    from_inverse None m = na m
-    from_inverse (Some c) m =
-        nb
-        (sym (h.ring.one_mul b s) ∙ ap (λ x. r.mul x b) (sym m.1 ∙ h.mul_comm a c p m.0) ∙ h.ring.mul_assoc c a b m.0 p s
-        ∙ ap (r.mul c) e ∙ ap (λ x. x.0) (mul_zero (elements h.ring) (c, m.0)))
-
 -- In a field of `count` elements each nonzero element to the power `count - 1` is one.
 pub power_of_count : {E : Type 0} (r : RingOps E) (inv : E → Option E) (h : IsField r inv) (count : ℕ) → IsNumbered r count
     → (c : E) → IsElem r c → c ≢ r.zero → power_of r c (count - 1) ≡ r.one
@@ -69,7 +59,7 @@ power_of_count r inv h count n c p nc =
     sym (power_value r h.ring (c, p) (count - 1))
     ∙ ap (λ x. x.0)
     (power_count (elements h.ring) (commute_on r h.ring h.mul_comm) count (counted_of r h.ring count n)
-    (λ e. h.one_ne_zero (ap (λ x. x.0) e)) (no_pair_on r h.ring (field_no_pair r inv h)) (c, p) (λ e. nc (ap (λ x. x.0) e)))
+    (λ e. h.one_ne_zero (ap (λ x. x.0) e)) (no_pair_on r h.ring (no_zero_divisors r inv h)) (c, p) (λ e. nc (ap (λ x. x.0) e)))
 
 -- The elements of a field that the power q fixes: x^q - x is the product of x - c over q of them.
 pub product_of_fixed : {E : Type 0} (r : RingOps E) (inv : E → Option E) (h : IsField r inv) (q : ℕ) → 2 ≤ q → (c : ℕ → E)
@@ -96,7 +86,7 @@ product_of_fixed {E} r inv h q large c c_in distinct fixed x p =
     comm = commute_on r h.ring h.mul_comm
 
     no_pair : NoPair R
-    no_pair = no_pair_on r h.ring (field_no_pair r inv h)
+    no_pair = no_pair_on r h.ring (no_zero_divisors r inv h)
 
     points : ℕ → Element r
     points j = (c j, c_in j)

@@ -1,9 +1,9 @@
 -- The listed numbers are prime: each nonzero number has an inverse modulo them, by a computed test.
-use Rattle.std.proofs.Common.{◌≡◌, ◌≢◌, inl, inr, ℕ, zero, suc, ◌-◌, ◌*◌, ◌%◌, ◌^◌, ◌<◌, ◌≤◌, Bool, true, false, ◌&&◌, ◌||◌, cond, nat_eq, Some, None, MatchOption, sym, refl, ap, subst, ◌∙◌, arith, eqb-true, ltb-true, lt-ltb}
+use Rattle.std.proofs.Common.{◌≡◌, ◌≢◌, inl, inr, ℕ, zero, suc, ◌-◌, ◌*◌, ◌%◌, ◌^◌, ◌<◌, ◌≤◌, Bool, true, false, ◌&&◌, ◌||◌, cond, nat_eq, Some, None, MatchOption, sym, refl, subst, arith, eqb-true, ltb-true, lt-ltb}
 use Rattle.std.proofs.lemmas.Bool.{or_cases, and_parts, eqb-false, cases_eq}
 use Rattle.ring_core.specs.Ring.{IsElem}
 use Rattle.ring_core.specs.Field.{IsField}
-use Rattle.ring_core.proofs.Carrier.{elements, mul_zero}
+use Rattle.ring_core.proofs.Degrees.{no_zero_divisors}
 use Rattle.finite_ring.specs.Finite.{HasNoPair}
 use Rattle.residue_field.specs.Prime.{is_listed, prime_ops, prime_inv}
 use Rattle.residue_field.proofs.Modular.{prime_ring, prime_commutes}
@@ -65,12 +65,4 @@ prime_field p e =
 
 -- no two nonzero numbers multiply to zero modulo a listed number
 pub prime_no_pair : (p : ℕ) → is_listed p ≡ true → HasNoPair (prime_ops p)
-prime_no_pair p e a b s t na nb d =
-    let r = prime_ops p in
-    let h = prime_ring p (listed_large p e) in
-    let positive : 0 < p = omega (arith, listed_large p e) in
-    let c = a ^ (p - 2) % p in
-    let c_in : IsElem r c = lt-ltb _ p (omega arith) in
-    nb (sym (h.one_mul b t)
-    ∙ ap (λ x. r.mul x b) (sym (prime_inverse p e a (ltb-true a p s) na) ∙ prime_commutes p a c s c_in)
-    ∙ h.mul_assoc c a b c_in s t ∙ ap (r.mul c) d ∙ ap (λ x. x.0) (mul_zero (elements h) (c, c_in)))
+prime_no_pair p e = no_zero_divisors (prime_ops p) (prime_inv p) (prime_field p e)
