@@ -7,6 +7,9 @@ use std::alloc::Global;
 use std::process::Abort;
 use std::test::Fail;
 
+/// `F_4[z] / (z^2 + z + a)`.
+pub const SIXTEEN: &str = "2 2; 1 1 1 | 2; 2 1 1";
+
 /// What `BaseField::make` is given.
 #[derive(Drop)]
 pub struct BaseData {

@@ -1,7 +1,7 @@
 //! Minimal polynomials against the product of `x - b` over the different conjugates `b`, by the plain
 //! computation.
 
-use super::data::{codes, make_top, top_data, top_element};
+use super::data::{SIXTEEN, codes, make_top, top_data, top_element};
 use super::plain::{Modulo, Numbers, Residues, next_power, next_sample, sample_element};
 use field_tower::{Code, TopElem, Tower};
 use fq_poly::Poly;
@@ -12,9 +12,6 @@ use std::test::Fail;
 
 /// `F_4` over two elements.
 const FOUR: &str = "2 1; 0 1 | 2; 1 1 1";
-
-/// `F_4[z] / (z^2 + z + a)`.
-const SIXTEEN: &str = "2 2; 1 1 1 | 2; 2 1 1";
 
 /// `F_3[z] / (z^4 + z + 2)`.
 const EIGHTY_ONE: &str = "3 1; 0 1 | 4; 2 1 0 0 1";
@@ -140,17 +137,22 @@ fn sample_of_degree_twelve(rt: HostRuntime) -> Result<(), Fail> {
     check_tower(&rt, rt.alloc(), TWELVE, false)
 }
 
-/// Of 0 it is `x`, of 1 it is `x + 1`, and of `z`, with the number 2, it is the modulus.
+/// Over two elements: of 0 it is `x`, of 1 it is `x + 1`, and of `z`, with the number 2, it is the modulus.
+fn check_by_hand(rt: &impl Abort, alloc: Global, row: &str) -> Result<(), Fail> {
+    let data = top_data(alloc, row)?;
+    let tower = make_top(alloc, &data)?;
+    let modulus = codes(alloc, &data.modulus)?;
+    for (a, want) in [(0, [0, 1].as_slice()), (1, &[1, 1]), (2, &modulus)] {
+        let got = min_poly_of(alloc, &tower, a)?;
+        assert_eq!(rt; got.as_slice(), want, "{row} {a}");
+    }
+    Ok(())
+}
+
 #[test]
 fn over_two_elements_by_hand(rt: HostRuntime) -> Result<(), Fail> {
     for row in [FOUR, TWELVE] {
-        let data = top_data(rt.alloc(), row)?;
-        let tower = make_top(rt.alloc(), &data)?;
-        let modulus = codes(rt.alloc(), &data.modulus)?;
-        for (a, want) in [(0, [0, 1].as_slice()), (1, &[1, 1]), (2, &modulus)] {
-            let got = min_poly_of(rt.alloc(), &tower, a)?;
-            assert_eq!(rt; got.as_slice(), want, "{a}");
-        }
+        check_by_hand(&rt, rt.alloc(), row)?;
     }
     Ok(())
 }

@@ -33,9 +33,8 @@ const TOPS: &str = "3 1; 0 1 | 1; 1 1 => 2
 2 2; 1 1 1 | 2; 2 1 1 => 0 1
 2 1; 0 1 | 12; 1 0 0 1 0 0 0 0 0 0 0 0 1 => 0 1";
 
-/// Degrees that no top field has, and lists that are no monic polynomial of the degree.
+/// A degree that no top field has, and lists that are no monic polynomial of the degree.
 const REFUSED: &str = "2 1; 0 1 | 0; 1 => too large
-2 1; 0 1 | 13; 1 => too large
 3 1; 0 1 | 2; 1 0 2 => bad modulus
 3 1; 0 1 | 2; 1 1 => bad modulus
 2 2; 1 1 1 | 2; 2 1 2 => bad modulus";
@@ -131,19 +130,42 @@ fn top_fields(rt: HostRuntime) -> Result<(), Fail> {
     Ok(())
 }
 
+/// The name of the cause.
+fn cause(why: TowerFault) -> &'static str {
+    match why {
+        TowerFault::TooLarge => "too large",
+        TowerFault::BadModulus => "bad modulus",
+        TowerFault::ZeroDivisors { a: _, b: _ } => "zero divisors",
+        TowerFault::NoMemory => "no memory",
+    }
+}
+
 #[test]
 fn top_refusals(rt: HostRuntime) -> Result<(), Fail> {
     for row in REFUSED.split('\n') {
         let (data, want) = row.split_once(" => ").ok_or("a row")?;
         let data = top_data(rt.alloc(), data)?;
-        let answer = match refusal(&rt, rt.alloc(), &data)? {
-            TowerFault::TooLarge => "too large",
-            TowerFault::BadModulus => "bad modulus",
-            TowerFault::ZeroDivisors { a: _, b: _ } => "zero divisors",
-            TowerFault::NoMemory => "no memory",
-        };
-        assert_eq!(rt; answer, want, "{row}");
+        let why = refusal(&rt, rt.alloc(), &data)?;
+        assert_eq!(rt; cause(why), want, "{row}");
     }
+    Ok(())
+}
+
+/// A monic modulus of one degree more than there are places.
+#[test]
+fn degree_past_the_places(rt: HostRuntime) -> Result<(), Fail> {
+    let mut modulus = Vec::new(rt.alloc());
+    for _ in 0..WIDTH + 1 {
+        modulus.push(0)?;
+    }
+    modulus.push(1)?;
+    let data = TopData {
+        base: base_data(rt.alloc(), "2 1; 0 1")?,
+        n: WIDTH as u32 + 1,
+        modulus,
+    };
+    let why = refusal(&rt, rt.alloc(), &data)?;
+    assert_eq!(rt; cause(why), "too large");
     Ok(())
 }
 

@@ -27,13 +27,16 @@ const SMALL: &str = "2 1; 0 1
 2 4; 1 1 1 1 1";
 
 /// Larger fields, each by one modulus: `a^2 - 2` over 5 and 13, `a^3 - a - 1`, `a^4 + a + 2` and
-/// `a^5 - a + 1` over 3, `a^2 + 1` over 7 and 11, `a^7 + a + 1` and `a^8 + a^4 + a^3 + a + 1` over 2,
-/// and the numbers modulo 251.
+/// `a^5 - a + 1` over 3, `a^2 + 1` over 7 and 11, `a^3 + a + 1` over 5, `a^5 + a^2 + 1`, `a^6 + a + 1`,
+/// `a^7 + a + 1` and `a^8 + a^4 + a^3 + a + 1` over 2, and the numbers modulo 251.
 const LARGE: &str = "5 2; 3 0 1
 3 3; 2 2 0 1
+2 5; 1 0 1 0 0 1
 7 2; 1 0 1
+2 6; 1 1 0 0 0 0 1
 3 4; 2 1 0 0 1
 11 2; 1 0 1
+5 3; 1 1 0 1
 2 7; 1 1 0 0 0 0 0 1
 13 2; 11 0 1
 3 5; 1 2 0 0 0 1

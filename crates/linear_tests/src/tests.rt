@@ -1,4 +1,4 @@
-ghost use Rattle.std.specs.Prelude.{◌≡◌, true, IfOk, length, vec_len};
+ghost use Rattle.std.specs.Prelude.{◌≡◌, ◌<◌, true, IfOk, length, vec_len};
 ghost use Rattle.linear_algebra.specs.Linear.{are_rows, is_row};
 ghost use Rattle.linear_tests.specs.BitField.{bit_ops};
 
@@ -37,16 +37,26 @@ fn bit_rows(alloc: Global, width: usize, xs: &[u64]) -> Result<Rows<bool>, NoMem
     Ok(rows)
 }
 
+/// Whether row `i` is that of the number.
+fn is_row_of(rows: &Rows<bool>, i: usize, x: u64) -> bool
+    requires { i < length rows.now.rows }
+{
+    for j in 0..rows.width() {
+        if rows.at(i, j) != bit(x, j) {
+            return false;
+        }
+    }
+    true
+}
+
 /// Whether the rows are those of the numbers.
 fn are(rows: &Rows<bool>, width: usize, xs: &[u64]) -> bool {
     if rows.len() != xs.len() || rows.width() != width {
         return false;
     }
     for i in 0..xs.len() {
-        for j in 0..width {
-            if rows.at(i, j) != bit(xs[i], j) {
-                return false;
-            }
+        if !is_row_of(rows, i, xs[i]) {
+            return false;
         }
     }
     true
@@ -154,11 +164,8 @@ fn sum_at(rows: &[u64], c: u64) -> u64 {
     sum
 }
 
-/// A system of 40 rows of 40 members, of which the last 8 rows are sums of others: its kernel, multiplied back, is
-/// zero, and has a row for each row that the basis lacks.
-#[test]
-fn kernel_multiplied_back(rt: HostRuntime) -> Result<(), Fail> {
-    let alloc = rt.alloc();
+/// 40 numbers below `2^40`, of which the last 8 are sums of others.
+fn sample() -> [u64; 40] {
     let mut numbers = [0; 40];
     let mut x: u64 = 88172645463325252;
     for i in 0..40 {
@@ -171,6 +178,28 @@ fn kernel_multiplied_back(rt: HostRuntime) -> Result<(), Fail> {
             numbers[i % 32] ^ numbers[i / 2]
         };
     }
+    numbers
+}
+
+/// The number whose bit `j` is member `j` of row `i`.
+fn row_number(rows: &Rows<bool>, i: usize) -> u64
+    requires { i < length rows.now.rows }
+{
+    let mut x = 0;
+    for j in 0..rows.width() {
+        if rows.at(i, j) && j < 64 {
+            x |= 1 << (j % 64);
+        }
+    }
+    x
+}
+
+/// A system of 40 rows of 40 members: its kernel, multiplied back, is zero, and has a row for each row that the basis
+/// lacks.
+#[test]
+fn kernel_multiplied_back(rt: HostRuntime) -> Result<(), Fail> {
+    let alloc = rt.alloc();
+    let numbers = sample();
     let rows = bit_rows(alloc, 40, &numbers)?;
     let basis = echelon(alloc, &BitField, &rows)?;
     let relations = kernel(alloc, &BitField, &rows)?;
@@ -178,12 +207,7 @@ fn kernel_multiplied_back(rt: HostRuntime) -> Result<(), Fail> {
     assert_eq!(rt; relations.len(), 8);
     assert_eq!(rt; relations.width(), 40);
     for i in 0..8 {
-        let mut c = 0;
-        for j in 0..40 {
-            if relations.at(i, j) {
-                c |= 1 << j;
-            }
-        }
+        let c = row_number(&relations, i);
         assert!(rt; c != 0);
         assert_eq!(rt; sum_at(&numbers, c), 0);
     }
