@@ -39,9 +39,11 @@ fn reading(rt: &HostRuntime, limit: usize, fails: &[u32]) -> Result<Result<Vec<u
 #[test]
 fn reads_in_memory(rt: HostRuntime) -> Result<(), Fail> {
     assert_eq!(rt; reading(&rt, 6, &[])??.as_slice(), b"base 2".as_slice());
-    assert!(rt; reading(&rt, 5, &[])?.is_err());
+    let stop = reading(&rt, 5, &[])?;
+    assert!(rt; matches!(stop, Err(ReadStop::TooLong)));
     // The fourth call sees the end.
-    assert!(rt; reading(&rt, 6, &[4])?.is_err());
+    let stop = reading(&rt, 6, &[4])?;
+    assert!(rt; matches!(stop, Err(ReadStop::Failed)));
     assert_eq!(rt; reading(&rt, 6, &[5])??.len(), 6);
 
     let mut plain = PlainSource::new(b"yes".to_vec(rt.alloc())?);
