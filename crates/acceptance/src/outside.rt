@@ -137,6 +137,15 @@ fn tells_a_failed_write(rt: HostRuntime) -> Result<(), Fail> {
     )?;
     let second = sink_of(alloc, &[2])?;
     check_write(&rt, alloc, second, sink_of(alloc, &[1])?, b"q = 2\n", b"")?;
+    let third = sink_of(alloc, &[3])?;
+    check_write(
+        &rt,
+        alloc,
+        third,
+        sink_of(alloc, &[])?,
+        b"q = 2\nn = 2\n",
+        b"write failed\n",
+    )?;
     // room for the first text and two bytes of the second
     let small = MemSink::new(alloc, 8, 4096, Vec::new(alloc))?;
     check_write(
@@ -146,6 +155,21 @@ fn tells_a_failed_write(rt: HostRuntime) -> Result<(), Fail> {
         sink_of(alloc, &[])?,
         b"q = 2\nn ",
         b"write failed\n",
+    )
+}
+
+#[test]
+fn writes_each_text_by_one_call(rt: HostRuntime) -> Result<(), Fail> {
+    let alloc = rt.alloc();
+    let mut input = source_of(alloc, SCRIPT, 3, &[])?;
+    let sinks = (sink_of(alloc, &[4])?, sink_of(alloc, &[])?);
+    check_run(
+        &rt,
+        alloc,
+        &[],
+        &mut input,
+        sinks,
+        (0, b"q = 2\nn = 2\nyes\n", b""),
     )
 }
 
