@@ -2,7 +2,7 @@
 use Rattle.std.proofs.Common.{◌≡◌, ◌≢◌, ℕ, ◌+◌, ◌*◌, ◌<◌, ◌≤◌, inl, Bool, true, false, Option, Some, None, is_some, List, length, set, refl, sym, ◌∙◌, ap, ap₂, subst, arith, nat_lt, ltb-true, ltb-false}
 use Rattle.ring_core.specs.Ring.{RingOps, IsElem, IsRing}
 use Rattle.ring_core.specs.Coeffs.{coeff, are_elems}
-use Rattle.ring_core.proofs.Carrier.{elements, same_element, neg_mul, neg_zero, zero_mul, add_zero}
+use Rattle.ring_core.proofs.Carrier.{elements, same_element, neg_mul, neg_zero, zero_mul, add_zero, add_times_zero}
 use Rattle.ring_core.proofs.Coefficients.{elem_read, coeff_past}
 use Rattle.linear_algebra.specs.Combines.{Combines, minus, IsReduced}
 use Rattle.linear_algebra.proofs.Sums.{by_bool}
@@ -11,7 +11,7 @@ use Rattle.linear_algebra.proofs.Insert.{Joins, IsJoined, inserted_reduced, inse
 use Rattle.linear_algebra.proofs.Lift.{AllIn, AreIn, row_of, rows_of, to_spans, from_spans, to_reduced, from_reduced, combines_into, combines_row, combines_add, combines_minus, combines_scale, combines_as}
 use Rattle.fq_linear.specs.Places.{IsWritten, cleared}
 use Rattle.fq_linear.specs.Elimination.{row_number, is_lead, numbered_cells, slot, IsTable, IsBelow, CanJoin, IsInserted}
-use Rattle.fq_linear.proofs.Places.{add_times_zero, elem_as}
+use Rattle.fq_linear.proofs.Places.{elem_as}
 use Rattle.fq_linear.proofs.Tables.{row_place, row_end}
 use Rattle.fq_linear.proofs.Slots.{slot_in, numbered_past, number_new, number_old}
 

@@ -5,7 +5,7 @@ use Rattle.std.proofs.lemmas.List.{replicate-append-replicate}
 use Rattle.ring_core.specs.Ring.{RingOps, IsElem, IsRing}
 use Rattle.ring_core.specs.Coeffs.{coeff, are_elems}
 use Rattle.ring_core.proofs.Coefficients.{elem_read, elems_take}
-use Rattle.ring_core.proofs.Carrier.{elements, add_zero, zero_mul, mul_zero, neg_zero}
+use Rattle.ring_core.proofs.Carrier.{elements, add_zero, zero_mul, mul_zero, neg_zero, add_times_zero}
 use Rattle.ring_core.proofs.PowerLaws.{elems_drop}
 use Rattle.linear_algebra.proofs.Sums.{by_bool, same_or_other}
 use Rattle.ring_core.specs.Field.{IsField}
@@ -72,12 +72,6 @@ module _ {E : Type 0} (r : RingOps E) (h : IsRing r) where
   pub elems_range : (u : List E) (a b : ℕ) → are_elems r u ≡ true → are_elems r (slice_range u a b) ≡ true
   elems_range u a b e = elems_take r (b - a) (drop a u) (elems_drop r h a u e)
 
-  -- a + b 0 = a
-  pub add_times_zero : (a b z : E) → IsElem r a → IsElem r b → z ≡ r.zero → r.add a (r.mul b z) ≡ a
-  add_times_zero a b z ai bi e =
-      ap (λ x. r.add a (r.mul b x)) e ∙ ap (r.add a) (ap (λ x. x.0) (mul_zero (elements h) (b, bi)))
-      ∙ ap (λ x. x.0) (add_zero (elements h) (a, ai))
-
   -- a + (-0) b = a
   pub add_zero_times : (a b z : E) → IsElem r a → IsElem r b → z ≡ r.zero → r.add a (r.mul (r.neg z) b) ≡ a
   add_zero_times a b z ai bi e =
@@ -92,7 +86,7 @@ module _ {E : Type 0} (r : RingOps E) (h : IsRing r) where
   cleared_by_first at l n m row before u ri bi b above en em w =
       written_wider r.zero at n (length row) _ _ before u (omega arith) w
       (λ k c. ap₂ (λ x y. r.add (coeff r before (at + k)) (r.mul x y)) em (get_or-take (l + 1) row k r.zero (omega arith)))
-      (λ k c e. sym (add_times_zero (coeff r before (at + k)) _ (coeff r row k)
+      (λ k c e. sym (add_times_zero r h (coeff r before (at + k)) _ (coeff r row k)
       (elem_read r before h.closed.zero_in bi (at + k))
       (h.closed.neg_in _ (elem_read r before h.closed.zero_in bi (at + l))) (above k (omega arith))))
 

@@ -2,6 +2,7 @@
 use Rattle.linear_algebra.specs.Combines.{beside}
 use Rattle.std.proofs.Common.{◌≡◌, ℕ, ◌+◌, ◌-◌, ◌*◌, ◌<◌, ◌≤◌, inl, inr, true, cond, Option, Some, None, nat_eq, List, length, set, refl, sym, ◌∙◌, ap, ap₂, subst, arith, MatchOption, nat_lt, ltb-true, ltb-false, zero-add, get_or-set_same, get_or-set_other}
 use Rattle.std.proofs.lemmas.Bool.{cond_both}
+use Rattle.ring_core.proofs.Carrier.{add_times_zero}
 use Rattle.ring_core.specs.Ring.{RingOps, IsElem, IsRing}
 use Rattle.ring_core.specs.Coeffs.{coeff, are_elems}
 use Rattle.ring_core.proofs.Coefficients.{elem_read, coeff_past}
@@ -10,7 +11,7 @@ use Rattle.linear_algebra.proofs.Lift.{AllIn}
 use Rattle.fq_linear.specs.Places.{IsWritten, cleared, unit_row}
 use Rattle.fq_linear.specs.Table.{row_cells}
 use Rattle.fq_linear.specs.Elimination.{row_number, numbered_cells, slot, IsBelow, IsStored, augmented}
-use Rattle.fq_linear.proofs.Places.{elems_range, range_past, add_times_zero}
+use Rattle.fq_linear.proofs.Places.{elems_range, range_past}
 use Rattle.fq_linear.proofs.Tables.{row_end}
 
 module _ {E : Type 0} (r : RingOps E) where

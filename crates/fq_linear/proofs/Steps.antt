@@ -2,7 +2,7 @@
 use Rattle.std.proofs.Common.{◌≡◌, ℕ, ◌+◌, ◌-◌, ◌<◌, inl, inr, Bool, true, false, Option, None, is_some, cond, nat_lt, List, length, sym, ◌∙◌, ap, arith}
 use Rattle.ring_core.specs.Ring.{RingOps, IsRing}
 use Rattle.ring_core.specs.Coeffs.{coeff, are_elems}
-use Rattle.ring_core.proofs.Carrier.{elements}
+use Rattle.ring_core.proofs.Carrier.{elements, add_times_zero}
 use Rattle.linear_algebra.specs.Combines.{Combines, minus, IsReduced}
 use Rattle.linear_algebra.proofs.Sums.{same_or_other}
 use Rattle.linear_algebra.proofs.Spans.{minus_cleared}
@@ -12,7 +12,6 @@ use Rattle.fq_linear.specs.Table.{row_cells, table_rows}
 use Rattle.fq_linear.proofs.Tables.{row_at-table}
 use Rattle.fq_linear.specs.Places.{cleared, unit_row}
 use Rattle.fq_linear.specs.Elimination.{row_number, is_lead, numbered_cells, slot, IsTable, IsInserted, IsEliminated, augmented}
-use Rattle.fq_linear.proofs.Places.{add_times_zero}
 use Rattle.fq_linear.proofs.Slots.{slot_in, none_is_not}
 
 module _ {E : Type 0} (r : RingOps E) (h : IsRing r) where
