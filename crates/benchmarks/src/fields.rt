@@ -37,7 +37,7 @@ fn products<K: Field>(k: &K, c: E<K>) -> E<K>
 }
 
 /// The last of `CALLS` powers by the Frobenius, by each number of steps in turn.
-fn powers<K: FrobField>(k: &K, c: E<K>) -> E<K>
+fn frobenius_powers<K: FrobField>(k: &K, c: E<K>) -> E<K>
     requires { IsElem (K.ops k.now) c }
     ensures { IsElem (K.ops k.now) result }
 {
@@ -48,20 +48,22 @@ fn powers<K: FrobField>(k: &K, c: E<K>) -> E<K>
     x
 }
 
-/// `z^WIDTH + z^middle + c`, lowest coefficient first.
-fn trinomial(middle: usize, c: Code) -> [Code; WIDTH + 1] {
+/// `z^WIDTH + c` and the powers of `z` between them, lowest coefficient first.
+fn polynomial(powers: &[usize], c: Code) -> [Code; WIDTH + 1] {
     let mut list = [0; WIDTH + 1];
     list[0] = c;
-    if let Some(place) = list.get_mut(middle) {
-        *place = 1;
+    for power in powers {
+        if let Some(place) = list.get_mut(*power) {
+            *place = 1;
+        }
     }
     list[WIDTH] = 1;
     list
 }
 
-/// The top field modulo the first `z^WIDTH + z^middle + c` that is accepted, for codes `c` from 0 up, over
-/// the residues modulo 2 and this modulus of degree `s`.
-fn first_top(rt: &HostRuntime, s: u32, modulus: &[u32], middle: usize) -> io::Result<Made> {
+/// The top field modulo the first such polynomial that is accepted, for codes `c` from 0 up, over the
+/// residues modulo 2 and this modulus of degree `s`.
+fn first_top(rt: &HostRuntime, s: u32, modulus: &[u32], powers: &[usize]) -> io::Result<Made> {
     let start = Instant::now(rt)?;
     let made = BaseField::make(rt.alloc(), 2, s, modulus);
     let base_time = start.elapsed(rt)?;
@@ -70,7 +72,7 @@ fn first_top(rt: &HostRuntime, s: u32, modulus: &[u32], middle: usize) -> io::Re
     };
     let mut refused = Duration::ZERO;
     for c in 0..base.q() {
-        let list = trinomial(middle, c as Code);
+        let list = polynomial(powers, c as Code);
         if !all_elems(&base, &list) {
             break;
         }
@@ -114,8 +116,8 @@ fn refused_base(rt: &HostRuntime, s: u32, modulus: &[u32]) -> io::Result<Duratio
 
 /// Prints the times of the calls of a top field of degree `WIDTH` over the residues modulo 2 and this
 /// modulus of degree `s`.
-fn print_times(rt: &HostRuntime, s: u32, modulus: &[u32], middle: usize) -> io::Result<()> {
-    let made = first_top(rt, s, modulus, middle)?;
+fn print_times(rt: &HostRuntime, s: u32, modulus: &[u32], powers: &[usize]) -> io::Result<()> {
+    let made = first_top(rt, s, modulus, powers)?;
     let k = &made.tower;
     println!(rt; "{} elements, degree {WIDTH}", k.base().q())?;
     let refused = refused_base(rt, s, modulus)?;
@@ -137,7 +139,7 @@ fn print_times(rt: &HostRuntime, s: u32, modulus: &[u32], middle: usize) -> io::
     let product = products(k, z);
     let product_time = start.elapsed(rt)?;
     let start = Instant::now(rt)?;
-    let power = powers(k, z);
+    let power = frobenius_powers(k, z);
     let power_time = start.elapsed(rt)?;
     println!(rt;
         "  a product {} ns, a Frobenius power {} ns",
@@ -158,8 +160,9 @@ fn print_times(rt: &HostRuntime, s: u32, modulus: &[u32], middle: usize) -> io::
     println!(rt; "  equal: {}", k.equal(product, power))
 }
 
-/// Measures fields of degree `WIDTH` over 2 and over 256 elements.
+/// Measures fields of degree `WIDTH` over 2 and over 256 elements: modulo `z^12 + z^3 + c`, and modulo
+/// `z^12 + z^3 + z + c`.
 pub(super) fn print_all(rt: &HostRuntime, bits: &[u32], bytes: &[u32]) -> io::Result<()> {
-    print_times(rt, 1, bits, 3)?;
-    print_times(rt, 8, bytes, 1)
+    print_times(rt, 1, bits, &[3])?;
+    print_times(rt, 8, bytes, &[3, 1])
 }

@@ -1,5 +1,5 @@
 use Rattle.std.proofs.Common.{ap, ◌∙◌}
-use Rattle.benchmarks.proofs.fields.powers.Goals as goal
+use Rattle.benchmarks.proofs.fields.frobenius_powers.Goals as goal
 
 pub loop-i-preserved : goal.loop-i-preserved
 loop-i-preserved g c =
