@@ -110,18 +110,20 @@ touch "$tree/crates.txt" "$crate/stdin" "$crate/src/main.rt" "$crate/src/other.r
 cat >"$folder/bin/rt" <<'STUB'
 #!/usr/bin/env bash
 [[ -e fails ]] && echo 'a fault' && exit 1
-[[ -e edits ]] && touch src/main.rt && rm edits
+[[ -e edits ]] && sleep 0.05 && touch src/main.rt && rm edits
 mkdir -p out && echo built >>out/builds
 printf '#!/bin/sh\ngrep -c built "%s"\n' "$PWD/out/builds" >out/drinfeld
 chmod +x out/drinfeld
 STUB
 chmod +x "$folder/bin/rt"
 
-# launch NAME BUILDS: the launcher of the tree, whose program must have been built so often.
+# launch NAME BUILDS: the launcher of the tree, whose program must have been built so often. What is
+# changed next is then newer by more than a tick of the clock of files.
 launch() {
     PATH=$folder/bin:$PATH "$tree/drinfeld" >"$folder/output" 2>"$folder/errors"
     status=$?
     cmp -s "$folder/output" <(printf '%s\n' "$2") || fail "launcher, $1: built $(<"$folder/output") times, not $2"
+    sleep 0.05
 }
 
 launch 'nothing built' 1
