@@ -1,17 +1,14 @@
 //! How long the reader of scripts takes.
 
-use script_parse::parse;
+use script_parse::{SCRIPT_LIMIT, parse};
 use std::io;
 use std::time::Instant;
 use text_io::{StdSource, read_limited};
 
-/// The most bytes of a script.
-const MOST: usize = 65536;
-
 /// Prints what one call of `parse` takes on the script that standard input gives.
 pub(super) fn print_parse(rt: &HostRuntime) -> io::Result<()> {
     let mut input = StdSource::new(rt.stdin());
-    let Ok(bytes) = read_limited(rt.alloc(), &mut input, MOST) else {
+    let Ok(bytes) = read_limited(rt.alloc(), &mut input, SCRIPT_LIMIT) else {
         return Err(io::Error::from(io::ErrorKind::InvalidData));
     };
     let start = Instant::now(rt)?;
