@@ -1,0 +1,13 @@
+pub mod Shift
+pub mod Tops
+pub mod Places
+pub mod Unique
+pub mod Product
+pub mod Rest
+pub mod Matrix
+pub mod Blocks
+pub mod Lists
+pub mod OneBasis
+pub mod Only
+pub mod Entries
+pub mod Module
