@@ -1,0 +1,6 @@
+pub mod Onto
+pub mod Cancel
+pub mod Points
+pub mod FewRoots
+pub mod Domain
+pub mod Numbered
