@@ -4,6 +4,7 @@ pub mod Stored
 pub mod StoredValues
 pub mod PowerSteps
 pub mod Letter
+pub mod CodeLetter
 pub mod CodeDigits
 pub mod BaseValues
 pub mod BaseTables

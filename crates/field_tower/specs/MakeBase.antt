@@ -30,13 +30,13 @@ IsFaultOf p s modulus BadModulus = ⊥
 IsFaultOf p s modulus (ZeroDivisors a b) = IsPair (base_ops p (s - 1) modulus) a b
 IsFaultOf p s modulus NoMemory = Unit {0}
 
--- Where each refusal comes. Want of memory may come anywhere.
+-- Where each refusal comes. Want of memory may come once the size and the modulus are known to hold.
 abbrev pub IsBaseFault : ℕ → ℕ → List ℕ → BaseFault → Type 0
 IsBaseFault p s modulus TooLarge = HasBaseSize p s → ⊥
 IsBaseFault p s modulus BadModulus = HasBaseSize p s × (IsMonicModulo p s modulus → ⊥)
 IsBaseFault p s modulus (ZeroDivisors a b) =
     HasBaseSize p s × IsMonicModulo p s modulus × IsPair (base_ops p (s - 1) (reduced p modulus)) a b
-IsBaseFault p s modulus NoMemory = Unit {0}
+IsBaseFault p s modulus NoMemory = HasBaseSize p s × IsMonicModulo p s modulus
 
 -- The field of the data that were handed in, in which no two nonzero codes multiply to zero, or a
 -- refusal with its cause.

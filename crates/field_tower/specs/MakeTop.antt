@@ -19,13 +19,13 @@ HasTopSize n = (0 < n) × (n ≤ WIDTH)
 abbrev pub IsMonicOver : Base → ℕ → List ℕ → Type 0
 IsMonicOver base n modulus = (length modulus ≡ n + 1) × (coeff (ops_of base) modulus n ≡ (ops_of base).one)
 
--- Where each refusal comes. Want of memory may come anywhere.
+-- Where each refusal comes. Want of memory may come once the size and the modulus are known to hold.
 abbrev pub IsTopFault : Base → ℕ → List ℕ → TowerFault → Type 0
 IsTopFault base n modulus TooLarge = HasTopSize n → ⊥
 IsTopFault base n modulus BadModulus = HasTopSize n × (IsMonicOver base n modulus → ⊥)
 IsTopFault base n modulus (ZeroDivisors a b) =
     HasTopSize n × IsMonicOver base n modulus × IsPair (top_ops base (n - 1) modulus) a b
-IsTopFault base n modulus NoMemory = Unit {0}
+IsTopFault base n modulus NoMemory = HasTopSize n × IsMonicOver base n modulus
 
 -- The modulus and the images that the top field of these data keeps.
 pub record ArePartsOf (base : Base) (n : ℕ) (modulus kept : List ℕ) (images : List TopElem) : Type 0 where

@@ -5,7 +5,7 @@ ghost use Rattle.ring_core.specs.Powers.{power_of};
 ghost use Rattle.finite_ring.specs.Finite.{HasNoPair};
 ghost use Rattle.residue_field.specs.Tables.{IsRow, IsTable};
 ghost use Rattle.residue_field.specs.Prime.{is_listed, prime_ops};
-ghost use Rattle.residue_field.specs.Base.{Base, IsBase, base_ops, base_code, ops_of, size_of, inverse_of};
+ghost use Rattle.residue_field.specs.Base.{Base, IsBase, base_ops, base_code, ops_of, size_of, inverse_of, letter_code};
 ghost use Rattle.residue_field.proofs.BaseLaws.{base_field};
 ghost use Rattle.field_tower.specs.declared.size.TheConstants.{CODES};
 ghost use Rattle.field_tower.specs.Places.{IsModulus};
@@ -110,6 +110,19 @@ impl BaseField {
         ensures small { result ≤ CODES }
     {
         self.q as u32
+    }
+
+    /// The residue of the polynomial `a`. Modulo a polynomial of degree 1 it is minus the constant of the
+    /// modulus.
+    pub fn letter(&self) -> Code
+        ensures value { result ≡ letter_code self.now }
+        ensures elem { IsElem (ops_of self.now) result }
+    {
+        if self.s == 1 {
+            ((self.p - self.modulus[0] as u32) % self.p) as Code
+        } else {
+            self.p as Code
+        }
     }
 
     /// The product of two codes, from the table.

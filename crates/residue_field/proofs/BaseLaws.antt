@@ -1,7 +1,7 @@
 -- Base fields are fields. The laws of the ring hold for every listed prime and monic modulus; that no two
 -- nonzero codes multiply to zero gives the field.
 use Rattle.std.proofs.Common.{◌≡◌, ◌≢◌, ℕ, suc, ◌+◌, ◌-◌, ◌^◌, ◌<◌, List, length, slice_index, true, sym, ap, subst, ◌∙◌, arith}
-use Rattle.ring_core.specs.Ring.{IsRing, IsCommutative}
+use Rattle.ring_core.specs.Ring.{IsElem, IsRing, IsCommutative}
 use Rattle.ring_core.specs.Field.{IsField}
 use Rattle.ring_core.specs.Coeffs.{coeff, are_elems}
 use Rattle.ring_core.proofs.Carrier.{elements}
@@ -11,11 +11,12 @@ use Rattle.finite_ring.proofs.Counted.{IsCounted}
 use Rattle.residue_field.specs.Residue.{IsMonic}
 use Rattle.residue_field.specs.Prime.{is_listed, prime_ops}
 use Rattle.residue_field.specs.Digits.{code_places}
-use Rattle.residue_field.specs.Base.{Base, base_ops, ops_of, size_of, inverse_of}
+use Rattle.residue_field.specs.Base.{Base, base_ops, ops_of, size_of, inverse_of, letter_code}
 use Rattle.residue_field.proofs.Modular.{prime_ring, prime_commutes, prime_counted}
 use Rattle.residue_field.proofs.Listed.{listed_large}
 use Rattle.residue_field.proofs.DigitLaws.{code_stores}
 use Rattle.residue_field.proofs.ResidueRing.{residue_ring, residue_commutes, residue_one}
+use Rattle.residue_field.proofs.Letter.{letter-in}
 use Rattle.residue_field.proofs.Counted.{residue_counted, residue_field}
 
 -- The data of a base field of degree n + 1, before it is known that no two nonzero codes multiply to zero.
@@ -88,3 +89,10 @@ pub base_field : (k : Base) → IsField (ops_of k) (inverse_of k)
 base_field k =
     subst (λ m. IsField (ops_of k) (inverse_by_power (ops_of k) (k.p ^ m))) (degree_of k)
     (shape_field k.p (k.s - 1) k.modulus (shape_of k) k.is_base.5)
+
+pub letter_code_in : (k : Base) → IsElem (ops_of k) (letter_code k)
+unfolding base_ops letter_code
+letter_code_in k =
+    let prime : 1 < k.p = listed_large k.p k.is_base.0 in
+    letter-in (prime_ops k.p) (prime_ring k.p prime) (prime_commutes k.p) (k.s - 1) _ (base_monic k.p (k.s - 1) k.modulus (shape_of k))
+    (code_places k.p (k.s - 1)) (code_stores k.p (k.s - 1) (omega (arith, prime)))

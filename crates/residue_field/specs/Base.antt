@@ -7,7 +7,7 @@ use denote.Struct.Props.{props}
 use mathlib.Core.HLevel.{Σ_prop_path}
 use Rattle.ring_core.specs.Ring.{RingOps}
 use Rattle.ring_core.specs.Coeffs.{coeff, are_elems}
-use Rattle.residue_field.specs.Residue.{residue_ops}
+use Rattle.residue_field.specs.Residue.{residue_ops, residue_letter}
 use Rattle.finite_ring.specs.Finite.{HasNoPair, inverse_by_power}
 use Rattle.residue_field.specs.Prime.{is_listed, prime_ops}
 use Rattle.residue_field.specs.Digits.{code_places}
@@ -44,6 +44,10 @@ size_of k = k.p ^ k.s
 -- The inverse in a base field, None at zero.
 abbrev pub inverse_of : Base → ℕ → Option ℕ
 inverse_of k = inverse_by_power (ops_of k) (size_of k)
+
+-- The code of the letter `a`: of the residue of the polynomial `x`.
+unfoldable pub letter_code : Base → ℕ
+letter_code k = residue_letter (prime_ops k.p) (k.s - 1) (coeff (prime_ops k.p) k.modulus) (code_places k.p (k.s - 1))
 
 -- Two base fields are equal where their data are.
 pub base_inj : (x y : Base) → ◌≡◌ {A = ℕ × (ℕ × List ℕ)} (x.p, (x.s, x.modulus)) (y.p, (y.s, y.modulus)) → x ≡ y
