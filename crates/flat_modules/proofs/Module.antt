@@ -1,22 +1,22 @@
 -- Modules of rows: what is reached is closed under shifts, and what reaches the rows of a family reaches all that they do.
-use Rattle.std.proofs.Common.{◌≡◌, ◌≢◌, ℕ, zero, suc, ◌+◌, ◌-◌, ◌*◌, ◌/◌, ◌%◌, ◌<◌, ◌≤◌, inl, inr, true, false, List, [], ◌∷◌, length, cond, nat_lt, refl, sym, ◌∙◌, ap, ap₂, arith, lt-ltb, le-ltb, ltb-true, ltb-false, zero-mul}
+use Rattle.std.proofs.Common.{◌≡◌, ℕ, zero, suc, ◌+◌, ◌-◌, ◌*◌, ◌/◌, ◌%◌, ◌<◌, ◌≤◌, true, List, [], ◌∷◌, length, cond, nat_lt, refl, sym, ◌∙◌, ap, arith, lt-ltb, le-ltb, ltb-true, ltb-false}
 use Rattle.std.proofs.Math.Nat.{mod-lt, le-mul_of_pos_right}
-use Rattle.std.proofs.lemmas.Bool.{and_from, and_parts}
+use Rattle.std.proofs.lemmas.Bool.{and_from}
 use Rattle.std.proofs.lemmas.Nat.{div-add-mod', le-div}
-use Rattle.ring_core.specs.Ring.{RingOps, IsElem, IsRing}
-use Rattle.ring_core.specs.Coeffs.{coeff, is_canonical, are_elems, is_trimmed, first_values, list_of}
-use Rattle.ring_core.proofs.Carrier.{RingOn, Element, elements, same_element, zero_mul, mul_zero, add_zero}
-use Rattle.ring_core.proofs.Coefficients.{coeff_past, coeff-list_of, canonical-list_of, elem_read}
+use Rattle.ring_core.specs.Ring.{RingOps, IsRing}
+use Rattle.ring_core.specs.Coeffs.{coeff, is_canonical, first_values, list_of}
+use Rattle.ring_core.proofs.Carrier.{RingOn, Element, elements, same_element, mul_zero}
+use Rattle.ring_core.proofs.Coefficients.{coeff_past, coeff-list_of, canonical-list_of}
 use Rattle.ring_core.proofs.FirstValues.{length-first_values}
 use Rattle.linear_algebra.specs.Linear.{row_at, entry}
-use Rattle.linear_algebra.proofs.Sums.{combine, total_same, total_zero, by_bool, same_or_other}
+use Rattle.linear_algebra.proofs.Sums.{combine, total_same, total_zero, by_bool}
 use Rattle.linear_algebra.proofs.Lift.{AreIn, AllIn, row_of, rows_of}
 use Rattle.flat_modules.specs.Flat.{are_flat, combination, IsInModule}
 use Rattle.flat_modules.proofs.Shift.{shift, powers, shift_is, shift_same, combine_powers}
 use Rattle.flat_modules.proofs.Product.{combine_more}
 use Rattle.flat_modules.proofs.Unique.{Reached}
-use Rattle.flat_modules.proofs.Rest.{reached_zero, reached_add, reached_scale, reached_row}
-use Rattle.flat_modules.proofs.Lists.{flat_at, flat_in, row_past, listed, bound, combination_value, longest}
+use Rattle.flat_modules.proofs.Rest.{reached_zero, reached_add, reached_scale}
+use Rattle.flat_modules.proofs.Lists.{flat_in, row_past, listed, combination_value, longest}
 
 module _ {M : Type 0} (R : RingOn M) (w : ℕ) where
   -- rows of which those from `n` on are zero

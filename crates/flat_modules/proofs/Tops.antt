@@ -1,7 +1,7 @@
 -- Rows with different tops: where a combination is zero at the tops, its coefficients are.
-use Rattle.std.proofs.Common.{◌≡◌, ◌≢◌, ℕ, zero, suc, ◌+◌, ◌<◌, ◌≤◌, ◌⊎◌, inl, inr, Bool, true, false, nat_lt, refl, sym, ◌∙◌, ap, ap₂, arith, ltb-true, ltb-false}
+use Rattle.std.proofs.Common.{◌≡◌, ◌≢◌, ℕ, zero, suc, ◌+◌, ◌<◌, ◌≤◌, ◌⊎◌, inl, inr, Bool, true, false, nat_lt, sym, ◌∙◌, ap, arith, ltb-true, ltb-false}
 use Rattle.ring_core.proofs.Carrier.{RingOn, zero_mul, mul_zero}
-use Rattle.linear_algebra.proofs.Sums.{combine, total_same, total_zero, total_single, by_bool, same_or_other}
+use Rattle.linear_algebra.proofs.Sums.{combine, total_zero, total_single, by_bool, same_or_other}
 use Rattle.linear_algebra.proofs.Dependent.{IsDomain}
 
 -- The first `m` rows: those that are live have their highest nonzero members at different places, the others are zero.

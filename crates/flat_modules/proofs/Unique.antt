@@ -1,14 +1,14 @@
 -- Rows with rising leads of different places, cleared at each other's leads, are told by what they span.
-use Rattle.std.proofs.Common.{◌≡◌, ◌≢◌, ℕ, zero, suc, ◌+◌, ◌-◌, ◌*◌, ◌/◌, ◌%◌, ◌<◌, ◌≤◌, inl, inr, Bool, true, false, cond, nat_lt, refl, sym, ◌∙◌, ap, ap₂, arith, lt-ltb, ltb-true, ltb-false, add_comm, zero-mul}
+use Rattle.std.proofs.Common.{◌≡◌, ◌≢◌, ℕ, ◌+◌, ◌*◌, ◌/◌, ◌%◌, ◌<◌, ◌≤◌, inl, inr, nat_lt, sym, ◌∙◌, ap, ap₂, arith, ltb-true, ltb-false, add_comm, zero-mul}
 use Rattle.std.proofs.Math.Nat.{mul-add-mod_self_right, div-eq_of_lt, mod-eq_of_lt}
-use Rattle.ring_core.proofs.Carrier.{RingOn, zero_mul, mul_zero, minus_same, add_zero}
-use Rattle.linear_algebra.proofs.Sums.{combine, total_same, total_zero, by_bool, same_or_other}
+use Rattle.ring_core.proofs.Carrier.{RingOn, minus_same}
+use Rattle.linear_algebra.proofs.Sums.{combine, same_or_other}
 use Rattle.linear_algebra.proofs.Spans.{Spans, minus_self, span_into, span_row, span_as, span_minus}
 use Rattle.linear_algebra.proofs.Echelon.{no_lower}
 use Rattle.linear_algebra.proofs.Dependent.{IsDomain}
-use Rattle.flat_modules.proofs.Shift.{shift, powers, shift_is, shift_none}
-use Rattle.flat_modules.proofs.Tops.{HasTops, top_is_top, zero_combination}
-use Rattle.flat_modules.proofs.Places.{HasPlaces, power_top, powers_tops}
+use Rattle.flat_modules.proofs.Shift.{shift, powers, shift_none}
+use Rattle.flat_modules.proofs.Tops.{top_is_top, zero_combination}
+use Rattle.flat_modules.proofs.Places.{HasPlaces, powers_tops}
 
 -- `n` rows with rising leads `at` of different places, one at each lead, zero above it and at the others' leads plus
 -- multiples of the shift.

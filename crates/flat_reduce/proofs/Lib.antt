@@ -1,0 +1,7 @@
+pub mod Reading
+pub mod RowSteps
+pub mod Settling
+pub mod Pushed
+pub mod Reduced
+pub mod KernelRows
+pub mod KernelBasis

@@ -1,0 +1,105 @@
+-- What came about by turns has an invertible transform; settled rows have different lead places.
+use Rattle.std.proofs.Common.{◌≡◌, ◌≢◌, ℕ, ◌+◌, ◌*◌, ◌<◌, ◌≤◌, inl, inr, true, Bool, Option, List, [], length, cond, nat_lt, sym, ◌∙◌, ap, ap₂, arith, eq-eqb, ne_eqb, ltb-true, ltb-false}
+use Rattle.std.proofs.lemmas.Bool.{and_parts}
+use Rattle.ring_core.specs.Ring.{RingOps, IsElem, IsRing}
+use Rattle.ring_core.specs.Coeffs.{are_elems, is_trimmed}
+use Rattle.ring_core.proofs.Carrier.{RingOn, Element, elements, same_element, add_zero}
+use Rattle.ring_core.proofs.Coefficients.{coeff_past}
+use Rattle.ring_core.proofs.Degrees.{top_nonzero}
+use Rattle.linear_algebra.specs.Linear.{row_at, entry}
+use Rattle.linear_algebra.proofs.Sums.{same_or_other, by_bool}
+use Rattle.linear_algebra.proofs.Lift.{AllIn, rows_of}
+use Rattle.flat_modules.specs.Flat.{are_flat, lead_at}
+use Rattle.flat_modules.proofs.Lists.{flat_at, row_past, shift_value}
+use Rattle.flat_modules.proofs.Shift.{shift}
+use Rattle.flat_modules.proofs.Places.{HasPlaces}
+use Rattle.flat_modules.proofs.Matrix.{Transform, row_added, turn_transform, transform_same}
+use Rattle.flat_reduce.specs.Turns.{IsRowAdded, IsTurn, Turns, none, turn}
+use Rattle.flat_reduce.specs.Settled.{IsUnsettled}
+use Rattle.flat_reduce.specs.Settled.{slot_of}
+use Rattle.flat_reduce.proofs.Settling.{some_same}
+
+module _ {E : Type 0} (r : RingOps E) (h : IsRing r) where
+  abbrev R : RingOn (Element r)
+  R = elements h
+
+  -- the rows after an addition are elements
+  pub added_in : (p q s : ℕ) (c : E) (before after : List (List E)) → AllIn r (entry r before) → IsElem r c → IsRowAdded r p q s c before after → AllIn r (entry r after)
+  added_in p q s c before after bi ci added i t = elim (same_or_other i p) [
+    | inl e ↦
+        ap r.is_elem (ap (λ k. entry r after k t) e ∙ added.here t)
+        ∙ h.closed.add_in _ _ (bi p t) (h.closed.mul_in _ _ ci (ap r.is_elem (sym (shift_value r h s (rows_of r (entry r before) bi q) t)) ∙ (shift R s (rows_of r (entry r before) bi q) t).1))
+    | inr ne ↦ ap r.is_elem (added.rest i t ne) ∙ bi i t
+  ]
+
+  pub added_is : (p q e w : ℕ) (c : E) (ci : IsElem r c) (before after : List (List E)) (bi : AllIn r (entry r before)) (ai : AllIn r (entry r after)) → IsRowAdded r p q (e * w) c before after
+      → (i t : ℕ) → rows_of r (entry r after) ai i t ≡ row_added R p q (c, ci) e w (rows_of r (entry r before) bi) i t
+  added_is p q e w c ci before after bi ai added i t =
+      let rows = rows_of r (entry r before) bi in
+      let part : Element r = R.mul (c, ci) (shift R (e * w) (rows q) t) in
+      elim (same_or_other i p) [
+        | inl is ↦
+            same_element r _ _ (ap (λ k. entry r after k t) is ∙ added.here t ∙ ap₂ (λ k v. r.add (entry r before k t) (r.mul c v)) (sym is) (sym (shift_value r h (e * w) (rows q) t)))
+            ∙ ap (λ b. R.add (rows i t) (cond b part R.zero)) (sym (eq-eqb i p is))
+        | inr ne ↦
+            same_element r _ _ (added.rest i t ne) ∙ sym (add_zero R (rows i t))
+            ∙ ap (λ b. R.add (rows i t) (cond b part R.zero)) (sym (ne_eqb i p ne))
+      ]
+
+  -- some matrix undoes `left`
+  pub record HasTransform (w : ℕ) (m image left : List (List E)) (mi : AllIn r (entry r m)) : Type 0 where
+    pub image_in : AllIn r (entry r image)
+    pub left_in : AllIn r (entry r left)
+    pub len : ℕ
+    pub back : ℕ → ℕ → Element r
+    pub is : Transform R (length m) w len (rows_of r (entry r left) left_in) back (rows_of r (entry r m) mi) (rows_of r (entry r image) image_in)
+
+  module _ (w : ℕ) (m : List (List E)) (mi : AllIn r (entry r m)) (pos : 0 < length m) where
+    pub after_turn : (p q : ℕ) (image left columns image2 left2 columns2 : List (List E)) → p < length m → q < length m → p ≢ q → HasTransform w m image left mi → IsTurn r w (length m) p q image left columns image2 left2 columns2
+        → HasTransform w m image2 left2 mi
+    after_turn p q image left columns image2 left2 columns2 lp lq ne s t =
+        let n = length m in
+        let a : Element r = (t.factor, t.elem) in
+        let image_in = added_in p q _ t.factor image image2 s.image_in t.elem t.images in
+        let left_in = added_in p q _ t.factor left left2 s.left_in t.elem t.lefts in
+        let room = t.power * n + n + s.len in
+        record {
+          image_in = image_in;
+          left_in = left_in;
+          len = room + room;
+          back = _;
+          is = transform_same R n w (room + room) _ _ _ _ _ _ pos
+              (turn_transform R n w s.len room (room + room) p q t.power pos a lp lq ne _ s.back _ _ s.is (omega arith) (omega arith))
+              (added_is p q t.power n t.factor t.elem left left2 s.left_in left_in t.lefts)
+              (added_is p q t.power w t.factor t.elem image image2 s.image_in image_in t.images);
+        }
+
+    pub after_turns : (image left columns image2 left2 columns2 : List (List E)) → HasTransform w m image left mi → Turns r w (length m) image left columns image2 left2 columns2 → HasTransform w m image2 left2 mi
+    after_turns image left columns image2 left2 columns2 s none = s
+    after_turns image left columns image2 left2 columns2 s (turn p q a b k c d l lp lq ne before last) =
+        after_turn p q a b k c d l lp lq ne (after_turns image left columns a b k s before) last
+
+-- settled rows
+module _ {E : Type 0} (r : RingOps E) (h : IsRing r) (w n : ℕ) (slot : List (Option ℕ)) (image : List (List E)) (fi : are_flat r image ≡ true) (ii : AllIn r (entry r image)) (whole : length image ≡ n)
+    (settled : IsUnsettled w n n slot image) where
+  abbrev pub live : ℕ → Bool
+  live k = nat_lt 0 (length (row_at image k))
+
+  full : (k : ℕ) → live k ≡ true → row_at image k ≢ []
+  full k e z = let l = ltb-true 0 (length (row_at image k)) e in let v = ap length z in omega (arith, l, v)
+
+  pub inside : (k : ℕ) → live k ≡ true → k < n
+  inside k e = by_bool (nat_lt k n)
+      (λ b. ltb-true k n b)
+      (λ b. let l : n ≤ k = ltb-false k n b in absurd (full k e (row_past r image k (omega (arith, l, whole)))))
+
+  pub settled_places : HasPlaces (elements h) w live (lead_at image) (rows_of r (entry r image) ii)
+  settled_places = record {
+    absent = λ k t e. let l : length (row_at image k) ≤ 0 = ltb-false 0 (length (row_at image k)) e in same_element r _ _ (coeff_past r (row_at image k) t (omega (arith, l)));
+    nonzero = λ k e z. top_nonzero r h.closed.zero_in h.equal (row_at image k) (and_parts (are_elems r (row_at image k)) (is_trimmed r (row_at image k)) (flat_at r image fi k)).1 (full k e) (ap (λ x. x.0) z);
+    above = λ k t e l. same_element r _ _ (coeff_past r (row_at image k) t (omega (arith, l)));
+    places = λ j k lj lk ne e.
+        let a = inside j lj in
+        let b = inside k lk in
+        ne (some_same j k (sym (settled.all j (omega (arith, a)) (λ u. omega (arith, u, a)) (full j lj)) ∙ ap (λ p. slot_of slot p) e ∙ settled.all k (omega (arith, b)) (λ u. omega (arith, u, b)) (full k lk)));
+  }
