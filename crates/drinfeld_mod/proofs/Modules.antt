@@ -1,0 +1,39 @@
+-- Which lists of elements are modules, told by a test.
+use Rattle.std.proofs.Common.{◌≡◌, ◌≢◌, ◌+◌, ◌-◌, ◌<◌, ◌≤◌, true, false, nat_lt, List, [], length, sym, ap, ◌∙◌, arith, take_all}
+use Rattle.std.proofs.lemmas.Bool.{and_parts, and_from, or_parts, or_from, ltb-false, le-ltb, false_from_ne_true}
+use Rattle.ring_core.specs.Ring.{RingOps, IsElem, SameDecides}
+use Rattle.ring_core.specs.Coeffs.{coeff, trim, are_elems, is_trimmed}
+use Rattle.ring_core.proofs.Coefficients.{elem_read, trim_found, trimmed-trim}
+use Rattle.ring_core.proofs.Degrees.{top_nonzero}
+use Rattle.drinfeld_mod.specs.Module.{IsModule}
+use Rattle.drinfeld_mod.specs.Make.{has_no_rank}
+
+module _ {E : Type 0} (r : RingOps E) where
+  -- no zero stands at the top of a list whose last member isn't zero
+  trimmed_by_top : (u : List E) → 0 < length u → r.same (coeff r u (length u - 1)) r.zero ≡ false → is_trimmed r u ≡ true
+  trimmed_by_top u pos e =
+      let whole : length u ≤ length u - 1 + 1 = omega arith in
+      let trimmed = trim_found r u (length u) pos (omega arith) e (ap (trim r) (take_all (length u) u (omega arith))) in
+      ap (is_trimmed r) (sym (take_all (length u - 1 + 1) u whole) ∙ trimmed) ∙ trimmed-trim r u
+
+  -- at most nine elements that have a rank are a module
+  pub module_is : (u : List E) → are_elems r u ≡ true → has_no_rank r u ≡ false → length u ≤ 9 → IsModule r u
+  module_is u e ranked short =
+      let parts = or_parts (nat_lt (length u) 2) _ ranked in
+      let long : 2 ≤ length u = ltb-false (length u) 2 parts.0 in
+      record {
+        canonical = and_from _ _ e (trimmed_by_top u (omega (arith, long)) parts.1);
+        rank_pos = omega (arith, long);
+        rank_small = omega arith;
+      }
+
+  -- and a module has a rank
+  pub module_ranked : IsElem r r.zero → SameDecides r → (u : List E) → IsModule r u → has_no_rank r u ≡ false
+  module_ranked z d u m =
+      let parts = and_parts (are_elems r u) _ m.canonical in
+      let long : 2 ≤ length u = omega (arith, m.rank_pos) in
+      let some : u ≢ [] = λ e. let none : length u ≡ 0 = ap length e in omega (arith, long, none) in
+      let top = coeff r u (length u - 1) in
+      or_from _ _ (le-ltb (length u) 2 long)
+      (false_from_ne_true (r.same top r.zero)
+      (λ s. top_nonzero r z d u parts.1 some (d.same_eq top r.zero (elem_read r u z parts.0 (length u - 1)) z s)))
