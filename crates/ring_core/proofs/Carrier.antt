@@ -89,6 +89,19 @@ module _ {M : Type 0} (R : RingOn M) where
       neg_only (R.mul a b) (R.mul a (R.neg b))
       (sym (R.mul_add a b (R.neg b)) ∙ ap (R.mul a) (R.add_neg b) ∙ mul_zero a)
 
+  -- x = t - s where x + s = t
+  pub from_sum : (x s t : M) → R.add x s ≡ t → x ≡ R.add t (R.neg s)
+  from_sum x s t e =
+      sym (add_zero x) ∙ ap (R.add x) (sym (R.add_neg s)) ∙ sym (R.add_assoc x s (R.neg s)) ∙ ap (λ y. R.add y (R.neg s)) e
+
+  -- (c - d) b = t - s where c b + s = d b + t
+  pub difference : (b c d s t : M) → R.add (R.mul c b) s ≡ R.add (R.mul d b) t → R.mul (R.add c (R.neg d)) b ≡ R.add t (R.neg s)
+  difference b c d s t e =
+      from_sum (R.mul (R.add c (R.neg d)) b) s t
+      (ap (λ y. R.add y s) (R.add_mul c (R.neg d) b ∙ R.add_comm _ _ ∙ ap (λ y. R.add y (R.mul c b)) (neg_mul d b))
+      ∙ R.add_assoc _ _ _ ∙ ap (R.add (R.neg (R.mul d b))) e ∙ sym (R.add_assoc _ _ _)
+      ∙ ap (λ y. R.add y t) (neg_add (R.mul d b)) ∙ R.zero_add t)
+
 -- The elements of a `RingOps`, each with the proof that it is one.
 abbrev pub Element : {E : Type 0} → RingOps E → Type 0
 Element {E} r = (a : E) × IsElem r a

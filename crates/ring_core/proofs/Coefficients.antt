@@ -123,11 +123,11 @@ module _ {E : Type 0} (r : RingOps E) where
   trim-trimmed (x ∷ []) e = ap (λ b. cond b [] (x ∷ [])) (not-true (r.same x r.zero) e)
   trim-trimmed (x ∷ y ∷ ys) e = ap (cons_trimmed r x) (trim-trimmed (y ∷ ys) e)
 
-  trim_push : (u : List E) (x : E) → r.same x r.zero ≡ true → trim r (u ++ x ∷ []) ≡ trim r u
+  pub trim_push : (u : List E) (x : E) → r.same x r.zero ≡ true → trim r (u ++ x ∷ []) ≡ trim r u
   trim_push [] x e = ap (λ b. cond b [] (x ∷ [])) e
   trim_push (y ∷ ys) x e = ap (cons_trimmed r y) (trim_push ys x e)
 
-  trimmed_push : (u : List E) (x : E) → r.same x r.zero ≡ false → is_trimmed r (u ++ x ∷ []) ≡ true
+  pub trimmed_push : (u : List E) (x : E) → r.same x r.zero ≡ false → is_trimmed r (u ++ x ∷ []) ≡ true
   trimmed_push [] x e = ap not e
   trimmed_push (y ∷ []) x e = ap not e
   trimmed_push (y ∷ w ∷ ws) x e = trimmed_push (w ∷ ws) x e

@@ -1,5 +1,5 @@
 -- Degrees of products: over a ring with no zero divisors and with a one to one twist, they add.
-use Rattle.std.proofs.Common.{◌≡◌, ◌≢◌, ℕ, suc, ◌+◌, ◌-◌, ◌<◌, ◌≤◌, true, Option, None, Some, MatchOption, List, [], ◌∷◌, length, refl, sym, ◌∙◌, ap, ⊎_elim, arith}
+use Rattle.std.proofs.Common.{◌≡◌, ◌≢◌, ℕ, suc, ◌+◌, ◌-◌, ◌<◌, ◌≤◌, true, Option, None, Some, MatchOption, List, [], ◌∷◌, length, refl, sym, ◌∙◌, ap, subst, ⊎_elim, arith}
 use Rattle.std.proofs.lemmas.Bool.{and_parts, both_ways, not-true, cases_lt}
 use Rattle.ring_core.specs.Ring.{RingOps, IsElem, IsRing, SameDecides}
 use Rattle.ring_core.specs.Field.{IsField, FrobOps, IsFrobField}
@@ -32,6 +32,23 @@ length_by_top r z d u t e top past =
     (λ (all : length u - 1 ≤ t). omega arith)
     (cases_lt t (length u - 1)))
     (cases_lt (length u) (t + 1))
+
+pub not_empty : {E : Type 0} (u : List E) → 0 < length u → u ≢ []
+not_empty u pos e = let none : length u ≡ 0 = ap length e in absurd (omega arith)
+
+pub has_members : {E : Type 0} (u : List E) → u ≢ [] → 0 < length u
+has_members [] ne = absurd (ne refl)
+has_members (x ∷ xs) ne = omega arith
+
+-- A trimmed list ends before its zeros.
+pub length_below : {E : Type 0} (r : RingOps E) → IsRing r → (u : List E) (n : ℕ) → 0 < n → is_trimmed r u ≡ true → ((i : ℕ) → n ≤ i + 1 → coeff r u i ≡ r.zero) → length u < n
+length_below r h [] n pos t zeros = pos
+length_below r h (x ∷ xs) n pos t zeros =
+    ⊎_elim
+    (λ (l : length (x ∷ xs) < n). l)
+    (λ (l : n ≤ length (x ∷ xs)).
+    absurd (top_nonzero r h.closed.zero_in h.equal (x ∷ xs) t (λ e. cc) (zeros (length (x ∷ xs) - 1) (omega arith))))
+    (cases_lt (length (x ∷ xs)) n)
 
 -- No zero divisors.
 pub record HasNoDivisors {E : Type 0} (r : RingOps E) (frob : E → ℕ → E) : Type 0 where
@@ -92,15 +109,11 @@ module _ {E : Type 0} (r : RingOps E) (h : IsRing r) (frob : E → ℕ → E) (t
       (none.image _ m (elem_read r b z eb n) top_b) (sym lead ∙ s))
       (λ i l. coeff-mul r h frob t a b ea eb i ∙ past_top a b ea eb m n i la lb l)
 
-  not_empty : (u : List E) → u ≢ [] → 0 < length u
-  not_empty [] ne = absurd (ne refl)
-  not_empty (x ∷ xs) ne = omega arith
-
   -- The degrees of nonzero factors add.
   pub degrees_add : HasNoDivisors r frob → (a b : List E) → is_canonical r a ≡ true → is_canonical r b ≡ true → a ≢ [] → b ≢ [] → length (list_mul r frob a b) + 1 ≡ length a + length b
   degrees_add none a b p q na nb =
-      let pos_a = not_empty a na in
-      let pos_b = not_empty b nb in
+      let pos_a = has_members a na in
+      let pos_b = has_members b nb in
       omega (arith, length_of_product none a b p q na nb (length a - 1) (length b - 1) (omega arith) (omega arith))
 
 -- A field has no zero divisors.
@@ -114,6 +127,21 @@ module _ {E : Type 0} (r : RingOps E) (inv : E → Option E) (k : IsField r inv)
 
   pub no_zero_divisors : (a b : E) → IsElem r a → IsElem r b → a ≢ r.zero → b ≢ r.zero → r.mul a b ≢ r.zero
   no_zero_divisors a b p q na nb = λ e. nb (zero_from a b p q e (inv a) (k.inv_is a p) na)
+
+  inverse_cases : (a : List E) → is_canonical r a ≡ true → 0 < length a → (o : Option E) → MatchOption o (coeff r a (length a - 1) ≡ r.zero) (λ c. IsElem r c × (r.mul (coeff r a (length a - 1)) c ≡ r.one))
+      → MatchOption o (a ≡ []) (λ c. (0 < length a) × IsElem r c × (r.mul (coeff r a (length a - 1)) c ≡ r.one))
+  inverse_cases a ca pos None is =
+      absurd (top_nonzero r k.ring.closed.zero_in k.ring.equal a (and_parts _ _ ca).1 (not_empty a pos) is)
+  inverse_cases a ca pos (Some c) is = (pos, is.0, is.1)
+
+  -- the inverse of a top coefficient, which is there where there is such a coefficient
+  pub top_inverse_is : (a : List E) (top : E) (o : Option E) → is_canonical r a ≡ true → 0 < length a → top ≡ coeff r a (length a - 1) → o ≡ inv top
+      → MatchOption o (a ≡ []) (λ c. (0 < length a) × IsElem r c × (r.mul (coeff r a (length a - 1)) c ≡ r.one))
+  top_inverse_is a top o ca pos read is =
+      let e = (and_parts _ _ ca).0 in
+      let Holds : Option E → Type 0 = λ p. MatchOption p (coeff r a (length a - 1) ≡ r.zero) (λ c. IsElem r c × (r.mul (coeff r a (length a - 1)) c ≡ r.one)) in
+      inverse_cases a ca pos o
+      (subst Holds (sym (is ∙ ap inv read)) (k.inv_is (coeff r a (length a - 1)) (elem_read r a k.ring.closed.zero_in e (length a - 1))))
 
   -- Polynomials in a letter that commutes.
   pub poly_no_divisors : HasNoDivisors r (λ c i. c)

@@ -9,4 +9,5 @@ pub mod PowerLaws
 pub mod Monomial
 pub mod Degrees
 pub mod Central
+pub mod Written
 pub mod RowSteps

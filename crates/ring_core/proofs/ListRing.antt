@@ -4,13 +4,24 @@ use Rattle.std.proofs.lemmas.Bool.{and_parts, and_from, cases_lt, false_from_ne_
 use mathlib.Core.Path.{fun_ext}
 use Rattle.ring_core.specs.Ring.{RingOps, IsElem, IsClosed, SameDecides, IsRing, IsCommutative}
 use Rattle.ring_core.specs.Field.{IsField, FrobOps, IsFrobField}
-use Rattle.ring_core.specs.Coeffs.{coeff, sum_below, is_canonical, are_elems}
+use Rattle.ring_core.specs.Coeffs.{coeff, sum_below, is_canonical, are_elems, first_values, list_of}
 use Rattle.ring_core.specs.Twisted.{list_add, list_neg, product_at, list_mul, twisted_ops}
 use Rattle.ring_core.proofs.Carrier.{Element, same_element, elements, zero_mul, mul_zero, neg_zero}
 use Rattle.ring_core.proofs.Series.{conv, unit, series, conv_comm}
 use Rattle.ring_core.proofs.Values.{HasValues, ring_from_values, comm_from_values}
-use Rattle.ring_core.proofs.Coefficients.{coeff_past, elem_read, canonical-list_of, coeff-list_of, same_coeffs, same_lists-refl, same_lists-eq}
+use Rattle.ring_core.proofs.Coefficients.{coeff_past, elem_read, canonical-list_of, coeff-list_of, length-trim, same_coeffs, same_lists-refl, same_lists-eq}
+use Rattle.ring_core.proofs.FirstValues.{length-first_values}
 use Rattle.ring_core.proofs.Twist.{IsTwist, no_twist, frob_twist, sum_of_zeros, twist_of_zero, twist, twist_endo, conv_is_sum}
+
+module _ {E : Type 0} (r : RingOps E) where
+  pub length-list_of : (n : ℕ) (f : ℕ → E) → length (list_of r n f) ≤ n
+  length-list_of n f = omega (arith, length-trim r (first_values n f), length-first_values n f)
+
+  pub length-add : (a b : List E) → length (list_add r a b) ≤ max (length a) (length b)
+  length-add a b = length-list_of (max (length a) (length b)) _
+
+  pub length-neg : (a : List E) → length (list_neg r a) ≤ length a
+  length-neg a = length-list_of (length a) _
 
 module _ {E : Type 0} (r : RingOps E) (h : IsRing r) where
   -- The coefficients, as elements.

@@ -1,62 +1,45 @@
 -- A product made row by row: each coefficient of the left factor, times the right factor as the twist
 -- has raised it so far, is added from its place on.
-use Rattle.std.proofs.Common.{◌≡◌, ◌≢◌, ℕ, zero, suc, ◌+◌, ◌-◌, ◌<◌, ◌≤◌, min, true, List, ◌++◌, length, take, drop, set, sym, ◌∙◌, ap, ap₂, ⊎_elim, arith, append-nil, take_all, get_or-set_same, get_or-set_other}
-use Rattle.std.proofs.lemmas.Bool.{cases_eq, cases_lt}
+use Rattle.std.proofs.Common.{◌≡◌, ℕ, zero, suc, ◌+◌, ◌-◌, ◌<◌, ◌≤◌, inl, inr, min, true, List, ◌++◌, length, take, drop, sym, ◌∙◌, ap, ap₂, ⊎_elim, arith, append-nil, take_all}
+use Rattle.std.proofs.lemmas.Bool.{cases_lt}
 use Rattle.std.proofs.lemmas.List.{drop_all}
 use Rattle.ring_core.specs.Ring.{RingOps, IsElem, IsRing}
 use Rattle.ring_core.specs.Coeffs.{coeff, sum_below, are_elems}
 use Rattle.ring_core.specs.Twisted.{product_at}
+use Rattle.ring_core.specs.Written.{IsWritten}
 use Rattle.ring_core.proofs.Carrier.{elements, add_zero, zero_mul, add_times_zero}
 use Rattle.ring_core.proofs.Coefficients.{coeff_past, elem_read}
 use Rattle.ring_core.proofs.Twist.{IsTwist, sum_in}
 
--- The `j` places of `out` from `i` on have the values `f`, and the others are as before.
-pub record HasWritten {E : Type 0} (r : RingOps E) (i : ℕ) (f : ℕ → E) (before out : List E) (j : ℕ) : Type 0 where
-  pub below : (k : ℕ) → k < i → coeff r out k ≡ coeff r before k
-  pub done : (k : ℕ) → k < j → coeff r out (i + k) ≡ f k
-  pub rest : (k : ℕ) → j ≤ k → coeff r out (i + k) ≡ coeff r before (i + k)
-
-module _ {E : Type 0} (r : RingOps E) (i : ℕ) (f : ℕ → E) (before : List E) where
-  pub written_more : (out : List E) (j n : ℕ) (x : E) → HasWritten r i f before out j → n ≡ i + j → n < length out → x ≡ f j → HasWritten r i f before (set out n x) (j + 1)
-  written_more out j n x w place l is = record {
-    below = λ k (m : k < i).
-        let apart : k ≢ n = omega arith in
-        get_or-set_other out n k x r.zero apart ∙ w.below k m;
-    done = λ k (m : k < j + 1).
-        ⊎_elim
-        (λ (here : k ≡ j).
-        let same : i + k ≡ n = omega arith in
-        ap (coeff r (set out n x)) same ∙ get_or-set_same out n x r.zero l ∙ is ∙ ap f (sym here))
-        (λ (other : k ≢ j).
-        let apart : i + k ≢ n = omega arith in
-        get_or-set_other out n (i + k) x r.zero apart ∙ w.done k (omega arith))
-        (cases_eq k j);
-    rest = λ k (m : j + 1 ≤ k).
-        let apart : i + k ≢ n = omega arith in
-        get_or-set_other out n (i + k) x r.zero apart ∙ w.rest k (omega arith);
-  }
-
--- a list that is written from its start to its end
-pub written_all : {E : Type 0} (r : RingOps E) (f : ℕ → E) (before out : List E) → HasWritten r 0 f before out (length before) → ((k : ℕ) → length before ≤ k → f k ≡ r.zero) → (k : ℕ) → coeff r out k ≡ f k
-written_all r f before out w past k =
-    let place : k ≡ 0 + k = omega arith in
-    ap (coeff r out) place
-    ∙ ⊎_elim
-    (λ (low : k < length before). w.done k low)
-    (λ (high : length before ≤ k). w.rest k high ∙ coeff_past r before (0 + k) (omega arith) ∙ sym (past k high))
-    (cases_lt k (length before))
-
 module _ {E : Type 0} (r : RingOps E) (h : IsRing r) where
   -- what a row adds, past its end too
-  pub row_added : (i : ℕ) (c : E) (row before out : List E) → IsElem r c → are_elems r before ≡ true → HasWritten r i (λ k. r.add (coeff r before (i + k)) (r.mul c (coeff r row k))) before out (length row) → (k : ℕ) → coeff r out (i + k) ≡ r.add (coeff r before (i + k)) (r.mul c (coeff r row k))
+  pub row_added : (i : ℕ) (c : E) (row before out : List E) → IsElem r c → are_elems r before ≡ true → IsWritten r.zero i (length row) (λ k. r.add (coeff r before (i + k)) (r.mul c (coeff r row k))) before out → (k : ℕ) → coeff r out (i + k) ≡ r.add (coeff r before (i + k)) (r.mul c (coeff r row k))
   row_added i c row before out p e w k =
       let old = coeff r before (i + k) in
       ⊎_elim
-      (λ (low : k < length row). w.done k low)
+      (λ (low : k < length row). w.inside k low)
       (λ (high : length row ≤ k).
-      w.rest k high
+      w.outside (i + k) (inr (omega arith))
       ∙ sym (add_times_zero r h old c (coeff r row k) (elem_read r before h.closed.zero_in e (i + k)) p (coeff_past r row k high)))
       (cases_lt k (length row))
+
+  -- what a row adds, place by place
+  pub row_written : (i : ℕ) (c : E) (row before out : List E) → IsElem r c → are_elems r before ≡ true → ((k : ℕ) → k < i → coeff r out k ≡ coeff r before k)
+      → ((k : ℕ) → coeff r out (i + k) ≡ r.add (coeff r before (i + k)) (r.mul c (coeff r row k)))
+      → IsWritten r.zero i (length row) (λ k. r.add (coeff r before (i + k)) (r.mul c (coeff r row k))) before out
+  row_written i c row before out p e below added = record {
+    inside = λ k l. added k;
+    outside = λ k o.
+        elim o [
+          | inl low ↦ below k low
+          | inr high ↦
+              let place : k ≡ i + (k - i) = omega arith in
+              let past : length row ≤ k - i = omega arith in
+              ap (coeff r out) place ∙ added (k - i)
+              ∙ add_times_zero r h (coeff r before (i + (k - i))) c (coeff r row (k - i)) (elem_read r before h.closed.zero_in e (i + (k - i))) p (coeff_past r row (k - i) past)
+              ∙ ap (coeff r before) (sym place)
+        ];
+  }
 
   -- what a row adds where the factor is zero
   pub nothing_added : (i : ℕ) (c : E) (row before : List E) → c ≡ r.zero → are_elems r row ≡ true → are_elems r before ≡ true → (k : ℕ) → coeff r before (i + k) ≡ r.add (coeff r before (i + k)) (r.mul c (coeff r row k))

@@ -1,20 +1,13 @@
 -- What the product with a twist needs of the twist, and the coefficients of such a product as sums.
-use Rattle.std.proofs.Common.{◌≡◌, ◌≢◌, ℕ, zero, suc, ◌+◌, ◌-◌, ◌<◌, Option, None, Some, MatchOption, refl, sym, ◌∙◌, ap, ap₂, arith}
+use native.Mathlib.Nat.{div-add-mod}
+use Rattle.std.proofs.Common.{◌≡◌, ◌≢◌, ℕ, zero, suc, ◌+◌, ◌-◌, ◌*◌, ◌/◌, ◌%◌, ◌<◌, Option, None, Some, MatchOption, refl, sym, ◌∙◌, ap, ap₂, arith, mul-zero, mul-suc}
 use mathlib.Core.Path.{fun_ext}
 use Rattle.ring_core.specs.Ring.{RingOps, IsElem, IsRing}
 use Rattle.ring_core.specs.Field.{IsField, FrobOps, IsFrobField}
 use Rattle.ring_core.specs.Coeffs.{sum_below}
+pub use Rattle.ring_core.specs.Twisted.{IsTwist}
 use Rattle.ring_core.proofs.Carrier.{Element, same_element, elements, zero_only}
 use Rattle.ring_core.proofs.Series.{IsEndo, conv, total, total_first}
-
--- `frob c i` is the `i`-th power of an endomorphism of the ring, applied to `c`.
-pub record IsTwist {E : Type 0} (r : RingOps E) (frob : E → ℕ → E) : Type 0 where
-  pub twist_in : (c : E) (i : ℕ) → IsElem r c → IsElem r (frob c i)
-  pub twist_zero : (c : E) → IsElem r c → frob c 0 ≡ c
-  pub twist_plus : (c : E) (i j : ℕ) → IsElem r c → frob c (i + j) ≡ frob (frob c i) j
-  pub twist_add : (a b : E) (i : ℕ) → IsElem r a → IsElem r b → frob (r.add a b) i ≡ r.add (frob a i) (frob b i)
-  pub twist_mul : (a b : E) (i : ℕ) → IsElem r a → IsElem r b → frob (r.mul a b) i ≡ r.mul (frob a i) (frob b i)
-  pub twist_one : (i : ℕ) → frob r.one i ≡ r.one
 
 -- The trivial twist.
 abbrev pub no_twist : {E : Type 0} (r : RingOps E) → IsTwist r (λ c i. c)
@@ -132,3 +125,35 @@ module _ {E B : Type 0} (r : RingOps E) (inv : E → Option E) (base : RingOps B
     twist_mul = l.frob_mul;
     twist_one = frob_of_one;
   }
+
+-- The Frobenius comes back to where it was after `degree` steps, so its steps count modulo the degree.
+module _ {E B : Type 0} (r : RingOps E) (base : RingOps B) (f : FrobOps E B) (laws : IsFrobField r base f) where
+  pub frob_round : (c : E) (m : ℕ) → IsElem r c → f.frob c (f.degree * m) ≡ c
+  frob_round c zero e = ap (f.frob c) (mul-zero f.degree) ∙ laws.frob_zero c e
+  frob_round c (suc m) e =
+      ap (f.frob c) (mul-suc f.degree m) ∙ laws.frob_plus c (f.degree * m) f.degree e
+      ∙ ap (λ x. f.frob x f.degree) (frob_round c m e) ∙ laws.frob_degree c e
+
+  pub frob_mod : (c : E) (i : ℕ) → IsElem r c → f.frob c (i % f.degree) ≡ f.frob c i
+  frob_mod c i e =
+      ap (λ x. f.frob x (i % f.degree)) (sym (frob_round c (i / f.degree) e))
+      ∙ sym (laws.frob_plus c (f.degree * (i / f.degree)) (i % f.degree) e)
+      ∙ ap (f.frob c) (div-add-mod i f.degree)
+
+-- The base is a part of the field.
+module _ {E B : Type 0} (r : RingOps E) (inv : E → Option E) (base : RingOps B) (base_inv : B → Option B) (f : FrobOps E B) (k : IsField r inv) (kb : IsField base base_inv) (l : IsFrobField r base f) where
+  pub embed_zero : f.embed base.zero ≡ r.zero
+  embed_zero =
+      let z = kb.ring.closed.zero_in in
+      let image : Element r = (f.embed base.zero, l.embed_in base.zero z) in
+      ap (λ x. x.0) (zero_only (elements k.ring) image
+      (same_element r _ _ (sym (l.embed_add base.zero base.zero z z) ∙ ap f.embed (kb.ring.zero_add base.zero z))))
+
+  pub embed_one : f.embed base.one ≡ r.one
+  embed_one =
+      let closed = kb.ring.closed in
+      let inside = l.embed_in base.one closed.one_in in
+      square_only r inv base f k l (f.embed base.one) inside
+      (sym (l.embed_mul base.one base.one closed.one_in closed.one_in) ∙ ap f.embed (kb.ring.one_mul base.one closed.one_in))
+      (λ e. kb.one_ne_zero (l.embed_inj base.one base.zero closed.one_in closed.zero_in (e ∙ sym embed_zero)))
+      (inv (f.embed base.one)) (k.inv_is (f.embed base.one) inside)

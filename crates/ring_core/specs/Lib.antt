@@ -5,3 +5,4 @@ pub mod Powers
 pub mod Twisted
 pub mod Monomial
 pub mod Degrees
+pub mod Written

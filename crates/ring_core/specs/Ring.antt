@@ -1,5 +1,5 @@
 -- The operations of a ring as one value, and its laws as records over that value.
-use Rattle.std.specs.Prelude.{◌≡◌, Bool, true}
+use Rattle.std.specs.Prelude.{◌≡◌, ℕ, ◌<◌, Bool, true}
 
 -- The operations of a ring, which its elements, told by `is_elem`, are closed under.
 -- `same` is what a comparison of two elements answers.
@@ -44,3 +44,13 @@ pub record IsRing {E : Type 0} (r : RingOps E) : Type 0 where
 
 abbrev pub IsCommutative : {E : Type 0} → RingOps E → Type 0
 IsCommutative {E} r = (a b : E) → IsElem r a → IsElem r b → r.mul a b ≡ r.mul b a
+
+-- The elements are numbered by the numbers below `count`, each number once, and zero has the number 0.
+pub record IsNumbered {E : Type 0} (r : RingOps E) (count : ℕ) : Type 0 where
+  pub index : E → ℕ
+  pub nth : ℕ → E
+  pub below : (a : E) → IsElem r a → index a < count
+  pub nth_in : (i : ℕ) → IsElem r (nth i)
+  pub nth_index : (a : E) → IsElem r a → nth (index a) ≡ a
+  pub index_nth : (i : ℕ) → i < count → index (nth i) ≡ i
+  pub index_zero : index r.zero ≡ 0

@@ -1,8 +1,17 @@
 -- Twisted polynomials `u_0 + u_1 tau + ..` as lists, with `tau c = frob c 1 tau`. Polynomials in a
 -- letter that commutes with its coefficients are the case of the twist `λ c i. c`.
-use Rattle.std.specs.Prelude.{ℕ, ◌+◌, ◌-◌, List, [], ◌∷◌, length, max}
-use Rattle.ring_core.specs.Ring.{RingOps}
+use Rattle.std.specs.Prelude.{◌≡◌, ℕ, ◌+◌, ◌-◌, List, [], ◌∷◌, length, max}
+use Rattle.ring_core.specs.Ring.{RingOps, IsElem}
 use Rattle.ring_core.specs.Coeffs.{coeff, sum_below, is_canonical, same_lists, list_of}
+
+-- `frob c i` is the `i`-th power of an endomorphism of the ring, applied to `c`.
+pub record IsTwist {E : Type 0} (r : RingOps E) (frob : E → ℕ → E) : Type 0 where
+  pub twist_in : (c : E) (i : ℕ) → IsElem r c → IsElem r (frob c i)
+  pub twist_zero : (c : E) → IsElem r c → frob c 0 ≡ c
+  pub twist_plus : (c : E) (i j : ℕ) → IsElem r c → frob c (i + j) ≡ frob (frob c i) j
+  pub twist_add : (a b : E) (i : ℕ) → IsElem r a → IsElem r b → frob (r.add a b) i ≡ r.add (frob a i) (frob b i)
+  pub twist_mul : (a b : E) (i : ℕ) → IsElem r a → IsElem r b → frob (r.mul a b) i ≡ r.mul (frob a i) (frob b i)
+  pub twist_one : (i : ℕ) → frob r.one i ≡ r.one
 
 -- The sum, place by place.
 abbrev pub list_add : {E : Type 0} → RingOps E → List E → List E → List E

@@ -1,9 +1,9 @@
-ghost use Rattle.std.specs.Prelude.{◌≡◌, ℕ, ◌<◌, Option, length, true};
+ghost use Rattle.std.specs.Prelude.{◌≡◌, ℕ, ◌<◌, IfSome, Option, length, true};
 ghost use Rattle.ring_core.specs.Ring.{RingOps, IsElem};
 ghost use Rattle.ring_core.specs.Field.{FrobOps, IsField, IsFrobField};
 ghost use Rattle.ring_core.specs.Coeffs.{are_elems};
 
-/// A field. No operation takes memory.
+/// A field. No operation takes memory, and each answer is an element.
 pub trait Field {
     type Elem: Copy;
 
@@ -19,33 +19,39 @@ pub trait Field {
 
     /// The neutral element of the sum.
     fn zero(&self) -> Self::Elem
-        ensures { result ≡ (ops self.now).zero };
+        ensures value { result ≡ (ops self.now).zero }
+        ensures elem { IsElem (ops self.now) result };
 
     /// The neutral element of the product.
     fn one(&self) -> Self::Elem
-        ensures { result ≡ (ops self.now).one };
+        ensures value { result ≡ (ops self.now).one }
+        ensures elem { IsElem (ops self.now) result };
 
     /// The sum.
     fn add(&self, a: Self::Elem, b: Self::Elem) -> Self::Elem
         requires left { IsElem (ops self.now) a }
         requires right { IsElem (ops self.now) b }
-        ensures { result ≡ (ops self.now).add a b };
+        ensures value { result ≡ (ops self.now).add a b }
+        ensures elem { IsElem (ops self.now) result };
 
     /// The negative.
     fn neg(&self, a: Self::Elem) -> Self::Elem
         requires { IsElem (ops self.now) a }
-        ensures { result ≡ (ops self.now).neg a };
+        ensures value { result ≡ (ops self.now).neg a }
+        ensures elem { IsElem (ops self.now) result };
 
     /// The product.
     fn mul(&self, a: Self::Elem, b: Self::Elem) -> Self::Elem
         requires left { IsElem (ops self.now) a }
         requires right { IsElem (ops self.now) b }
-        ensures { result ≡ (ops self.now).mul a b };
+        ensures value { result ≡ (ops self.now).mul a b }
+        ensures elem { IsElem (ops self.now) result };
 
     /// The element whose product with `a` is one; None exactly where `a` is zero.
     fn inv(&self, a: Self::Elem) -> Option<Self::Elem>
         requires { IsElem (ops self.now) a }
-        ensures { result ≡ inv_of self.now a };
+        ensures value { result ≡ inv_of self.now a }
+        ensures elem { IfSome result (IsElem (ops self.now)) };
 
     /// Whether the two elements are equal.
     fn equal(&self, a: Self::Elem, b: Self::Elem) -> bool
@@ -83,24 +89,28 @@ pub trait FrobField: Field {
     /// The element that `b` of the base is in this field.
     fn embed(&self, b: B<Self>) -> Self::Elem
         requires { IsElem (Self.Base.ops (base_of self.now)) b }
-        ensures { result ≡ (frob_ops self.now).embed b };
+        ensures value { result ≡ (frob_ops self.now).embed b }
+        ensures elem { IsElem (Self.ops self.now) result };
 
     /// The power of `c` by `q^i`, where the base has `q` elements.
     fn frob(&self, c: Self::Elem, i: usize) -> Self::Elem
         requires { IsElem (Self.ops self.now) c }
-        ensures { result ≡ (frob_ops self.now).frob c i };
+        ensures value { result ≡ (frob_ops self.now).frob c i }
+        ensures elem { IsElem (Self.ops self.now) result };
 
     /// Coordinate `j` of `c` over the base.
     fn coord(&self, c: Self::Elem, j: usize) -> B<Self>
         requires elem { IsElem (Self.ops self.now) c }
         requires place { j < (frob_ops self.now).degree }
-        ensures { result ≡ (frob_ops self.now).coord c j };
+        ensures value { result ≡ (frob_ops self.now).coord c j }
+        ensures elem { IsElem (Self.Base.ops (base_of self.now)) result };
 
     /// The element with these coordinates, of which there are `degree` many.
     fn of_coords(&self, list: &[B<Self>]) -> Self::Elem
         requires elems { are_elems (Self.Base.ops (base_of self.now)) list.now ≡ true }
         requires places { length list.now ≡ (frob_ops self.now).degree }
-        ensures { result ≡ (frob_ops self.now).of_coords list.now };
+        ensures value { result ≡ (frob_ops self.now).of_coords list.now }
+        ensures elem { IsElem (Self.ops self.now) result };
 
     ghost frob_laws: { (k : Self) → IsFrobField (Self.ops k) (Self.Base.ops (base_of k)) (frob_ops k) };
 }

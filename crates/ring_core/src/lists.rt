@@ -1,6 +1,6 @@
 //! Lists of elements of a field as polynomials, lowest coefficient first: what polynomials in a
 //! letter that commutes with its coefficients and twisted polynomials share.
-ghost use Rattle.std.specs.Prelude.{◌≡◌, [], ◌∷◌, ◌≤◌, IfOk, length, max, take, true};
+ghost use Rattle.std.specs.Prelude.{◌≡◌, [], ◌∷◌, ◌-◌, ◌<◌, ◌≤◌, IfOk, MatchOption, length, max, take, true};
 ghost use Rattle.ring_core.specs.Ring.{IsElem};
 ghost use Rattle.ring_core.specs.Coeffs.{coeff, trim, are_elems, is_canonical, same_lists, first_values};
 ghost use Rattle.ring_core.specs.Twisted.{list_add, list_neg};
@@ -106,7 +106,7 @@ pub fn sum_list<K: Field>(
 }
 
 /// The negatives of the coefficients, place by place.
-fn neg_values<K: Field>(alloc: Global, field: &K, list: &[E<K>]) -> Result<Vec<E<K>>, NoMemory>
+pub fn neg_values<K: Field>(alloc: Global, field: &K, list: &[E<K>]) -> Result<Vec<E<K>>, NoMemory>
     requires { are_elems (K.ops field.now) list.now ≡ true }
     ensures value { IfOk result
         (λ v. let r = K.ops field.now in v.items ≡ first_values (length list.now) (λ i. r.neg (coeff r list.now i))) }
@@ -150,6 +150,20 @@ pub fn scaled_values<K: Field>(
         values.push(product)?;
     }
     Ok(values)
+}
+
+/// The inverse of the top coefficient of a polynomial; None exactly for the zero polynomial.
+pub fn top_inverse<K: Field>(field: &K, list: &[E<K>]) -> Option<E<K>>
+    requires { is_canonical (K.ops field.now) list.now ≡ true }
+    ensures { let r = K.ops field.now in
+        MatchOption result (list.now ≡ [])
+        (λ c. (0 < length list.now) × IsElem r c × (r.mul (coeff r list.now (length list.now - 1)) c ≡ r.one)) }
+{
+    let Some(last) = list.len().checked_sub(1) else {
+        return None;
+    };
+    let top = coeff_at(field, list, last);
+    field.inv(top)
 }
 
 /// Whether each member of the list is an element of the field.

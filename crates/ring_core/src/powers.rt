@@ -3,6 +3,8 @@ ghost use Rattle.ring_core.specs.Ring.{IsElem};
 ghost use Rattle.ring_core.specs.Coeffs.{are_elems};
 ghost use Rattle.ring_core.specs.Powers.{power_of, value_at};
 
+use super::field::{E, Field};
+use super::lists::coeff_at;
 use super::memory::NoMemory;
 use super::ring::Ring;
 use std::alloc::Global;
@@ -24,6 +26,41 @@ pub fn power<R: Ring>(alloc: Global, r: &R, a: &R::Elem, k: u128) -> Result<R::E
     } else {
         Ok(r.mul(alloc, &square, a)?)
     }
+}
+
+/// The product of `k` times `a` in a field, one for `k = 0`, by squares as in `power`. Takes no memory.
+pub fn field_power<F: Field>(field: &F, a: E<F>, k: u128) -> E<F>
+    requires { IsElem (F.ops field.now) a }
+    ensures value { result ≡ power_of (F.ops field.now) a k }
+    ensures elem { IsElem (F.ops field.now) result }
+{
+    if k == 0 {
+        return field.one();
+    }
+    let half = field_power(field, a, k / 2);
+    let square = field.mul(half, half);
+    if k % 2 == 0 {
+        square
+    } else {
+        field.mul(square, a)
+    }
+}
+
+/// The value at `x` of the polynomial with these coefficients, lowest first, by Horner's rule. Takes no
+/// memory.
+pub fn value_of<F: Field>(field: &F, list: &[E<F>], x: E<F>) -> E<F>
+    requires list { are_elems (F.ops field.now) list.now ≡ true }
+    requires point { IsElem (F.ops field.now) x }
+    ensures value { result ≡ value_at (F.ops field.now) list.now x }
+    ensures elem { IsElem (F.ops field.now) result }
+{
+    let mut sum = field.zero();
+    for i in (0..list.len()).rev() {
+        let coeff = coeff_at(field, list, i);
+        let shifted = field.mul(sum, x);
+        sum = field.add(coeff, shifted);
+    }
+    sum
 }
 
 /// The sum of `coeffs[i] * a^i`, by Horner's rule. No coefficient need commute with `a`.

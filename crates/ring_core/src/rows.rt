@@ -1,5 +1,5 @@
 //! Lists of elements of a field that are written in place, as a product made row by row does.
-ghost use Rattle.std.specs.Prelude.{◌≡◌, ℕ, ◌+◌, ◌<◌, ◌≤◌, IfOk, length, true};
+ghost use Rattle.std.specs.Prelude.{◌≡◌, ℕ, ◌+◌, ◌<◌, ◌≤◌, ◌↔◌, IfOk, IsTrue, length, true};
 ghost use Rattle.ring_core.specs.Ring.{IsElem};
 ghost use Rattle.ring_core.specs.Coeffs.{coeff, are_elems, first_values};
 
@@ -44,4 +44,19 @@ pub fn add_scaled<K: Field>(field: &K, out: &mut [E<K>], i: usize, c: E<K>, row:
         let sum = field.add(old, term);
         out[i + j] = sum;
     }
+}
+
+/// Whether all members from the place `n` on are zero.
+pub fn is_zero_from<K: Field>(field: &K, n: usize, row: &[E<K>]) -> bool
+    requires { are_elems (K.ops field.now) row.now ≡ true }
+    ensures { let r = K.ops field.now in IsTrue result ↔ ((k : ℕ) → n ≤ k → coeff r row.now k ≡ r.zero) }
+{
+    for k in n..row.len() {
+        let member = coeff_at(field, row, k);
+        let zero = field.zero();
+        if !field.equal(member, zero) {
+            return false;
+        }
+    }
+    true
 }

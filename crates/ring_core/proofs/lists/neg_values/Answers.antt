@@ -6,13 +6,12 @@ use Rattle.ring_core.proofs.lists.neg_values.Goals as goal
 pub loop-i-preserved : goal.loop-i-preserved
 loop-i-preserved g c =
     let r = g.K.Field.ops c.args.field.now in
-    let closed = (g.met.K.Field.laws c.args.field.now).ring.closed in
     let read = c.coeff_at-coeff.ensures in
     record {
       elems =
           elems_more r _ _ _ c.in_ok-push.ensures.items c.loop-i.invariant.elems
-          (ap r.is_elem c.neg-negative.ensures ∙ closed.neg_in _ read.elem);
+          c.neg-negative.ensures.elem;
       value =
           values_more r c.loop-i.i (λ i. r.neg (coeff r c.args.list.now i)) _ _ _ c.in_ok-push.ensures.items c.loop-i.invariant.value
-          (c.neg-negative.ensures ∙ ap r.neg read.value);
+          (c.neg-negative.ensures.value ∙ ap r.neg read.value);
     }

@@ -6,13 +6,12 @@ use Rattle.ring_core.proofs.lists.scaled_values.Goals as goal
 pub loop-i-preserved : goal.loop-i-preserved
 loop-i-preserved g c =
     let r = g.K.Field.ops c.args.field.now in
-    let closed = (g.met.K.Field.laws c.args.field.now).ring.closed in
     let read = c.coeff_at-member.ensures in
     record {
       elems =
           elems_more r _ _ _ c.in_ok-push.ensures.items c.loop-i.invariant.elems
-          (ap r.is_elem c.mul-product.ensures ∙ closed.mul_in _ _ c.requires.factor read.elem);
+          c.mul-product.ensures.elem;
       value =
           values_more r c.loop-i.i (λ i. r.mul c.args.c (coeff r c.args.list.now i)) _ _ _ c.in_ok-push.ensures.items c.loop-i.invariant.value
-          (c.mul-product.ensures ∙ ap (r.mul c.args.c) read.value);
+          (c.mul-product.ensures.value ∙ ap (r.mul c.args.c) read.value);
     }

@@ -1,31 +1,27 @@
-use Rattle.std.proofs.Common.{◌≡◌, true, ◌+◌, ◌<◌, ◌≤◌, length, subst, refl, ap, ap₂, ◌∙◌, arith}
+use Rattle.std.proofs.Common.{◌≡◌, true, ◌+◌, ◌<◌, length, subst, refl, ap, ap₂, ◌∙◌, arith}
 use Rattle.ring_core.specs.Coeffs.{coeff}
+use Rattle.ring_core.specs.Written.{IsWritten}
 use Rattle.ring_core.proofs.Coefficients.{elems_set}
-use Rattle.ring_core.proofs.RowSteps.{HasWritten, written_more, row_added, nothing_added}
+use Rattle.ring_core.proofs.Written.{written_more, next_place}
+use Rattle.ring_core.proofs.RowSteps.{row_added, nothing_added}
 use Rattle.ring_core.proofs.rows.add_scaled.Goals as goal
 
 pub loop-j-preserved : goal.loop-j-preserved
 loop-j-preserved g c =
     let r = g.K.Field.ops c.args.field.now in
-    let closed = (g.met.K.Field.laws c.args.field.now).ring.closed in
     let before = c.args.out.now in
     let out = c.loop-j.out in
     let row = c.args.row.now in
     let i = c.args.i in
     let j = c.loop-j.j in
     let room : i + j < length out = omega arith in
-    let here : j ≤ j = omega arith in
-    let old = c.coeff_at-old.ensures in
-    let member = c.coeff_at-member.ensures in
-    let term = c.mul-term.ensures in
-    let sum = c.add-sum.ensures in
+    let was = next_place r.zero i j _ before out c.loop-j.invariant.written in
     record {
-      elems =
-          elems_set r out (i + j) _ c.loop-j.invariant.elems
-          (ap r.is_elem sum ∙ closed.add_in _ _ old.elem (ap r.is_elem term ∙ closed.mul_in _ _ c.requires.factor member.elem));
+      elems = elems_set r out (i + j) _ c.loop-j.invariant.elems c.add-sum.ensures.elem;
       written =
-          written_more r i (λ k. r.add (coeff r before (i + k)) (r.mul c.args.c (coeff r row k))) before out j (i + j) _ c.loop-j.invariant.written refl room
-          (sum ∙ ap₂ r.add (old.value ∙ c.loop-j.invariant.written.rest j here) (term ∙ ap (r.mul c.args.c) member.value));
+          written_more r.zero i j (i + j) (λ k. r.add (coeff r before (i + k)) (r.mul c.args.c (coeff r row k))) before out _ c.loop-j.invariant.written refl room
+          (c.add-sum.ensures.value
+          ∙ ap₂ r.add (c.coeff_at-old.ensures.value ∙ was) (c.mul-term.ensures.value ∙ ap (r.mul c.args.c) c.coeff_at-member.ensures.value));
     }
 
 pub returns-then-equal-clause-added : goal.returns-then-equal-clause-added
@@ -43,4 +39,4 @@ returns-clause-added g c =
     let i = c.args.i in
     let all : c.loop-j.j ≡ length row = omega arith in
     row_added r (g.met.K.Field.laws c.args.field.now).ring i c.args.c row before c.loop-j.out c.requires.factor c.requires.out
-    (subst (λ n. HasWritten r i (λ k. r.add (coeff r before (i + k)) (r.mul c.args.c (coeff r row k))) before c.loop-j.out n) all c.loop-j.invariant.written)
+    (subst (λ n. IsWritten r.zero i n (λ k. r.add (coeff r before (i + k)) (r.mul c.args.c (coeff r row k))) before c.loop-j.out) all c.loop-j.invariant.written)

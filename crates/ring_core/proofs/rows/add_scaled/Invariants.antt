@@ -1,6 +1,6 @@
 use Rattle.std.proofs.Common.{◌≡◌, ◌+◌, true}
 use Rattle.ring_core.specs.Coeffs.{coeff, are_elems}
-use Rattle.ring_core.proofs.RowSteps.{HasWritten}
+use Rattle.ring_core.specs.Written.{IsWritten}
 use Rattle.ring_core.proofs.rows.add_scaled.Given as goal
 
 abbrev pub invariant-loop-j : goal.invariant-loop-j
@@ -8,5 +8,5 @@ invariant-loop-j g l =
     let r = g.K.Field.ops l.field in
     record {
       elems : are_elems r l.out ≡ true;
-      written : HasWritten r l.i (λ k. r.add (coeff r l.initial.out (l.i + k)) (r.mul l.c (coeff r l.row k))) l.initial.out l.out l.j;
+      written : IsWritten r.zero l.i l.j (λ k. r.add (coeff r l.initial.out (l.i + k)) (r.mul l.c (coeff r l.row k))) l.initial.out l.out;
     }
