@@ -2,6 +2,7 @@
 -- finite fields are told.
 use Rattle.std.specs.Prelude.{◌≡◌, ◌≢◌, ℕ, zero, suc, ◌+◌, ◌-◌, ◌^◌, ◌<◌, Option, Some, None, cond}
 use Rattle.ring_core.specs.Ring.{RingOps, IsElem}
+pub use Rattle.ring_core.specs.Ring.{IsNumbered}
 use Rattle.ring_core.specs.Powers.{power_of}
 
 -- No two nonzero elements multiply to zero.
@@ -45,13 +46,3 @@ pub record IsPowerLinear {B E : Type 0} (base : RingOps B) (r : RingOps E) (embe
   pub power_add : (a b : E) → IsElem r a → IsElem r b → power_of r (r.add a b) q ≡ r.add (power_of r a q) (power_of r b q)
   pub power_scale : (b : B) (c : E) → IsElem base b → IsElem r c → power_of r (r.mul (embed b) c) q ≡ r.mul (embed b) (power_of r c q)
   pub power_embed : (b : B) → IsElem base b → power_of r (embed b) q ≡ embed b
-
--- The elements are numbered by the numbers below `count`, each number once, and zero has the number 0.
-pub record IsNumbered {E : Type 0} (r : RingOps E) (count : ℕ) : Type 0 where
-  pub index : E → ℕ
-  pub nth : ℕ → E
-  pub below : (a : E) → IsElem r a → index a < count
-  pub nth_in : (i : ℕ) → IsElem r (nth i)
-  pub nth_index : (a : E) → IsElem r a → nth (index a) ≡ a
-  pub index_nth : (i : ℕ) → i < count → index (nth i) ≡ i
-  pub index_zero : index r.zero ≡ 0
