@@ -7,7 +7,7 @@ use Rattle.ring_core.specs.Coeffs.{coeff}
 use Rattle.linear_algebra.specs.Linear.{is_row}
 use Rattle.linear_algebra.proofs.Sums.{by_bool}
 use Rattle.linear_algebra.proofs.Gather.{leads, leads_more, leads_same}
-use Rattle.fq_linear.specs.Elimination.{row_number, is_lead, numbered_cells, numbered_rows, slot, IsTable}
+use Rattle.fq_linear.specs.steps.Elimination.{row_number, is_lead, numbered_cells, numbered_rows, slot, IsReducedTable}
 use Rattle.fq_linear.proofs.Places.{elems_range, range_place, range_past}
 
 module _ {E : Type 0} (w cut : ℕ) (index : List (Option ℕ)) (cells : List E) where
@@ -43,7 +43,7 @@ module _ {E : Type 0} (w cut : ℕ) (index : List (Option ℕ)) (cells : List E)
   low_some : (j i : ℕ) → row_number index j ≡ Some i → low_cells j ≡ slice_range cells (i * w) (i * w + cut)
   low_some j i e = ap (numbered_cells w cut cells) e
 
-module _ {E : Type 0} (r : RingOps E) (h : IsRing r) (w cut : ℕ) (index : List (Option ℕ)) (cells : List E) (t : IsTable r w index cells) (narrow : cut ≤ w) where
+module _ {E : Type 0} (r : RingOps E) (h : IsRing r) (w cut : ℕ) (index : List (Option ℕ)) (cells : List E) (t : IsReducedTable r w index cells) (narrow : cut ≤ w) where
   number_of : (j : ℕ) → is_lead index j ≡ true → (i : ℕ) × (row_number index j ≡ Some i)
   number_of j m = by_number w cut index cells (row_number index j) (λ e. absurd (never (ap is_some e) m)) (λ i e. (i, e))
     where

@@ -9,8 +9,8 @@ use Rattle.linear_algebra.proofs.Sums.{by_bool}
 use Rattle.linear_algebra.proofs.Spans.{minus_plus, minus_minus}
 use Rattle.linear_algebra.proofs.Insert.{Joins, IsJoined, inserted_reduced, inserted_within, old_spanned, new_spanned}
 use Rattle.linear_algebra.proofs.Lift.{AllIn, AreIn, row_of, rows_of, to_spans, from_spans, to_reduced, from_reduced, combines_into, combines_row, combines_add, combines_minus, combines_scale, combines_as}
-use Rattle.fq_linear.specs.Places.{IsWritten, cleared}
-use Rattle.fq_linear.specs.Elimination.{row_number, is_lead, numbered_cells, slot, IsTable, IsBelow, CanJoin, IsInserted}
+use Rattle.fq_linear.specs.steps.Places.{IsWritten, cleared}
+use Rattle.fq_linear.specs.steps.Elimination.{row_number, is_lead, numbered_cells, slot, IsReducedTable, IsBelow, CanJoin, IsInserted}
 use Rattle.fq_linear.proofs.Places.{elem_as}
 use Rattle.fq_linear.proofs.Tables.{row_place, row_end}
 use Rattle.fq_linear.proofs.Slots.{slot_in, numbered_past, number_new, number_old}
@@ -23,7 +23,7 @@ pub record JoinedTo {E : Type 0} (r : RingOps E) (lead : ℕ → Bool) (l : ℕ)
   pub old : (j k : ℕ) → (j ≡ l → ⊥) → after j k ≡ cleared r l y (before j) k
 
 module _ {E : Type 0} (r : RingOps E) (h : IsRing r) (w : ℕ) (index : List (Option ℕ)) (cells row : List E) (l : ℕ) (mark : ℕ → Bool) (after : ℕ → ℕ → E)
-    (ri : are_elems r row ≡ true) (wide : length row ≡ w) (t : IsTable r w index cells) (g : CanJoin r index row l)
+    (ri : are_elems r row ≡ true) (wide : length row ≡ w) (t : IsReducedTable r w index cells) (g : CanJoin r index row l)
     (n : JoinedTo r (is_lead index) l (coeff r row) (slot r w index cells) mark after) (ai : AllIn r after) where
   si : AllIn r (slot r w index cells)
   si = slot_in r h w index cells t.elems

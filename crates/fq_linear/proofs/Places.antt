@@ -9,7 +9,7 @@ use Rattle.ring_core.proofs.Carrier.{elements, add_zero, zero_mul, mul_zero, neg
 use Rattle.ring_core.proofs.PowerLaws.{elems_drop}
 use Rattle.linear_algebra.proofs.Sums.{by_bool, same_or_other}
 use Rattle.ring_core.specs.Field.{IsField}
-use Rattle.fq_linear.specs.Places.{IsWritten, IsTop, IsMonic, cleared}
+use Rattle.fq_linear.specs.steps.Places.{IsWritten, IsHighestPlace, IsMonicMultiple, cleared}
 
 module _ {E : Type 0} (r : RingOps E) where
   pub elems_replicate : (n : ℕ) (x : E) → IsElem r x → are_elems r (replicate n x) ≡ true
@@ -111,7 +111,7 @@ pub elem_as : {E : Type 0} (r : RingOps E) (a b : E) → a ≡ b → IsElem r b 
 elem_as r a b e h = ap r.is_elem e ∙ h
 
 -- monic rows
-pub monic_already : {E : Type 0} (r : RingOps E) (h : IsRing r) (row : List E) (l : ℕ) → are_elems r row ≡ true → coeff r row l ≡ r.one → IsMonic r l (coeff r row) (coeff r row)
+pub monic_already : {E : Type 0} (r : RingOps E) (h : IsRing r) (row : List E) (l : ℕ) → are_elems r row ≡ true → coeff r row l ≡ r.one → IsMonicMultiple r l (coeff r row) (coeff r row)
 monic_already r h row l ri e =
     let at = elem_read r row h.closed.zero_in ri in
     record {
@@ -123,7 +123,7 @@ monic_already r h row l ri e =
     }
 
 scaled_at : {E : Type 0} (r : RingOps E) (inv : E → Option E) (h : IsField r inv) (row new : List E) (l : ℕ) (b : E)
-    → are_elems r row ≡ true → IsTop r row l → IsElem r b
+    → are_elems r row ≡ true → IsHighestPlace r row l → IsElem r b
     → IsWritten r.zero 0 (l + 1) (λ k. r.mul b (coeff r row k)) row new → (k : ℕ) → coeff r new k ≡ r.mul b (coeff r row k)
 scaled_at r inv h row new l b ri top bi w k = by_bool (nat_lt k (l + 1))
     (λ t. ap (coeff r new) (sym (zero-add k)) ∙ w.inside k (ltb-true k (l + 1) t))
@@ -133,8 +133,8 @@ scaled_at r inv h row new l b ri top bi w k = by_bool (nat_lt k (l + 1))
     w.outside k (inr (omega arith)) ∙ z ∙ sym (ap (r.mul b) z ∙ ap (λ a. a.0) (mul_zero (elements h.ring) (b, bi))))
 
 pub monic_scaled : {E : Type 0} (r : RingOps E) (inv : E → Option E) (h : IsField r inv) (row new : List E) (l : ℕ) (b : E)
-    → are_elems r row ≡ true → IsTop r row l → inv (coeff r row l) ≡ Some b
-    → IsWritten r.zero 0 (l + 1) (λ k. r.mul b (coeff r row k)) row new → IsMonic r l (coeff r row) (coeff r new)
+    → are_elems r row ≡ true → IsHighestPlace r row l → inv (coeff r row l) ≡ Some b
+    → IsWritten r.zero 0 (l + 1) (λ k. r.mul b (coeff r row k)) row new → IsMonicMultiple r l (coeff r row) (coeff r new)
 monic_scaled r inv h row new l b ri top e w =
     let at = elem_read r row h.ring.closed.zero_in ri in
     let law = subst (λ o. MatchOption o (coeff r row l ≡ r.zero) (λ x. IsElem r x × (r.mul (coeff r row l) x ≡ r.one))) e (h.inv_is _ (at l)) in

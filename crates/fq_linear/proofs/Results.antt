@@ -14,8 +14,8 @@ use Rattle.linear_algebra.proofs.Sums.{combine}
 use Rattle.linear_algebra.proofs.Spans.{Spans, span_as, span_rows, span_into}
 use Rattle.linear_algebra.proofs.Augment.{augmented as augmented_on, Eliminates, all_relations, no_relation, relations_span, dependent_is_lead, lead_depends, solution, nothing_left}
 use Rattle.linear_algebra.proofs.Lift.{AllIn, AreIn, row_of, rows_of, to_spans, from_spans, to_reduced, combines_into, combines_as, combines_rows, combine_value}
-use Rattle.fq_linear.specs.Places.{unit_row}
-use Rattle.fq_linear.specs.Elimination.{row_number, is_lead, numbered_cells, slot, augmented, IsEliminated, IsReducedTarget}
+use Rattle.fq_linear.specs.steps.Places.{unit_row}
+use Rattle.fq_linear.specs.steps.Elimination.{row_number, is_lead, numbered_cells, slot, augmented, IsEliminated, IsReducedTarget}
 use Rattle.fq_linear.proofs.Slots.{slot_in, augmented_in}
 use Rattle.fq_linear.proofs.Gathered.{low_cells, low_shape, low_same, cut_length}
 use Rattle.fq_linear.proofs.Places.{elems_range, range_place}

@@ -8,9 +8,9 @@ use Rattle.ring_core.specs.Coeffs.{coeff, are_elems}
 use Rattle.ring_core.proofs.Coefficients.{elem_read, coeff_past}
 use Rattle.linear_algebra.proofs.Sums.{by_bool, same_or_other}
 use Rattle.linear_algebra.proofs.Lift.{AllIn}
-use Rattle.fq_linear.specs.Places.{IsWritten, cleared, unit_row}
+use Rattle.fq_linear.specs.steps.Places.{IsWritten, cleared, unit_row}
 use Rattle.fq_linear.specs.Table.{row_cells}
-use Rattle.fq_linear.specs.Elimination.{row_number, numbered_cells, slot, IsBelow, IsStored, augmented}
+use Rattle.fq_linear.specs.steps.Elimination.{row_number, numbered_cells, slot, IsBelow, HasRowsWithin, augmented}
 use Rattle.fq_linear.proofs.Places.{elems_range, range_past}
 use Rattle.fq_linear.proofs.Tables.{row_end}
 
@@ -108,7 +108,7 @@ below_joined index l count b h = record {
   ];
 }
 
-pub stored_joined : (index : List (Option ℕ)) (l count w m : ℕ) → l < length index → count * w + w ≤ m → IsStored w index m → IsStored w (set index l (Some count)) m
+pub stored_joined : (index : List (Option ℕ)) (l count w m : ℕ) → l < length index → count * w + w ≤ m → HasRowsWithin w index m → HasRowsWithin w (set index l (Some count)) m
 stored_joined index l count w m b room h = record {
   is = λ j i e. elim (same_or_other j l) [
     | inl q ↦

@@ -1,18 +1,21 @@
 -- What the definitions alone decide: echelon rows by their combinations, and solutions with zeros at the
 -- dependent rows.
 use Rattle.linear_algebra.proofs.RowLists.{row_len, row_elems, rows_in, same_row, rows_at}
-use Rattle.std.proofs.Common.{◌≡◌, ◌≢◌, ℕ, zero, suc, ◌<◌, ◌≤◌, ◌↔◌, ◌⊎◌, inl, inr, Option, Some, None, MatchOption, true, List, [], length, sym, ◌∙◌, ap, ap₂, arith, ext_get_or}
+use Rattle.std.proofs.Common.{◌≡◌, ◌≢◌, ℕ, zero, suc, ◌<◌, ◌≤◌, ◌↔◌, ◌⊎◌, inl, inr, Option, Some, None, MatchOption, true, List, [], length, sym, ◌∙◌, ap, subst, arith, eq-eqb, ext_get_or}
+use Rattle.std.proofs.lemmas.Bool.{and_from, cases_lt}
 use Rattle.ring_core.specs.Ring.{RingOps, IsElem, IsRing}
 use Rattle.ring_core.specs.Field.{IsField}
-use Rattle.ring_core.specs.Coeffs.{coeff}
-use Rattle.ring_core.proofs.Carrier.{RingOn, Element, elements, same_element, minus_same, neg_zero}
-use Rattle.ring_core.proofs.Coefficients.{elem_read, coeff_past}
-use Rattle.linear_algebra.specs.Linear.{row_at, entry, is_row, are_rows, lead, IsCombination, IsEchelon, IsSolution}
+use Rattle.ring_core.specs.Coeffs.{coeff, first_values}
+use Rattle.ring_core.proofs.Carrier.{RingOn, Element, elements, same_element, minus_same}
+use Rattle.ring_core.proofs.Coefficients.{elem_read, coeff_past, elems-first_values}
+use Rattle.ring_core.proofs.FirstValues.{length-first_values, at-first_values}
+use Rattle.linear_algebra.specs.Combines.{combined}
+use Rattle.linear_algebra.specs.Linear.{row_at, entry, is_row, are_rows, lead, IsCombination, IsOnlyCombination, IsDependent, IsEchelon, IsFirstDependence, IsSolution}
 use Rattle.linear_algebra.proofs.Sums.{combine, combine_add, combine_neg}
-use Rattle.linear_algebra.proofs.Spans.{Spans}
+use Rattle.linear_algebra.proofs.Spans.{Spans, minus_self}
 use Rattle.linear_algebra.proofs.Augment.{Depends, zero_from}
-use Rattle.linear_algebra.proofs.Echelon.{Rising, same_count_below, same_count_back, same_members}
-use Rattle.linear_algebra.proofs.Lift.{row_of, rows_of, to_spans, from_spans, combines_row, combine_value}
+use Rattle.linear_algebra.proofs.Echelon.{Rising, one_combination, same_count_below, same_count_back, same_members}
+use Rattle.linear_algebra.proofs.Lift.{AllIn, row_of, rows_of, to_spans, from_spans, combines_row, combine_value, combined_by}
 use Rattle.fq_linear.proofs.Leads.{lead_above}
 
 -- The inverse of each element that is not zero.
@@ -91,47 +94,121 @@ same_basis {E} r inv field w a b ai bi ea eb f =
     back : (i : ℕ) → i < length b → Spans R (length a) ra (rb i)
     back = rows_into r h w b a bi ai (λ x xr s. (f x xr).1 s)
 
-module _ {E : Type 0} (r : RingOps E) (inv : E → Option E) (field : IsField r inv) (w : ℕ) (rows : List (List E)) (target c d : List E)
-    (rowsi : are_rows r w rows ≡ true) (sc : IsSolution r rows target c) (sd : IsSolution r rows target d) where
+-- The one list of coefficients of a combination of echelon rows.
+pub only_combination : {E : Type 0} (r : RingOps E) (h : IsRing r) (w : ℕ) (rows : List (List E)) (x : List E) → are_rows r w rows ≡ true → IsEchelon r rows
+    → IsCombination r rows x → (c : List E) × IsOnlyCombination r rows x c
+only_combination {E} r h w rows x ri e s = (
+  list,
+  record {
+    shape = shape;
+    is = is;
+    only = λ d di sum. same_row r n d list di shape (λ k. ap (λ y. y.0) (same d di sum k));
+  },
+)
+  where
+    n : ℕ
+    n = length rows
+
+    list : List E
+    list = first_values n s.by
+
+    shape : is_row r n list ≡ true
+    shape = and_from _ _ (eq-eqb _ n (length-first_values n s.by)) (elems-first_values r n s.by (λ i l. s.elems i))
+
+    is : (j : ℕ) → coeff r x j ≡ combined r n (coeff r list) (entry r rows) j
+    is j = s.is j ∙ combined_by r h n s.by (coeff r list) (entry r rows) j (λ i l. sym (at-first_values n s.by i r.zero l))
+
+    members : ℕ → ℕ → Element r
+    members = rows_of r (entry r rows) (rows_in r h.closed.zero_in w rows ri)
+
+    coefficients : (d : List E) → is_row r n d ≡ true → ℕ → Element r
+    coefficients d di = row_of r (coeff r d) (elem_read r d h.closed.zero_in (row_elems r n d di))
+
+    gives : (d : List E) (di : is_row r n d ≡ true) → ((j : ℕ) → coeff r x j ≡ combined r n (coeff r d) (entry r rows) j)
+        → (j : ℕ) → (combine (elements h) n (coefficients d di) members j).0 ≡ coeff r x j
+    gives d di sum j = combine_value r h n (coefficients d di) members j ∙ sym (sum j)
+
+    same : (d : List E) (di : is_row r n d ≡ true) → ((j : ℕ) → coeff r x j ≡ combined r n (coeff r d) (entry r rows) j)
+        → (k : ℕ) → coefficients d di k ≡ coefficients list shape k
+    same d di sum k = elim (cases_lt k n) [
+      | inl l ↦
+          one_combination (elements h) n (λ i. lead r (row_at rows i)) members (rising_rows r h w rows ri e) (coefficients d di) (coefficients list shape)
+          (λ j. same_element r _ _ (gives d di sum j ∙ sym (gives list shape is j))) k l
+      | inr l ↦
+          same_element r _ _
+          (coeff_past r d k (omega (arith, row_len r n d di, l)) ∙ sym (coeff_past r list k (omega (arith, row_len r n list shape, l))))
+    ]
+
+module _ {E : Type 0} (r : RingOps E) (inv : E → Option E) (field : IsField r inv) where
   abbrev R : RingOn (Element r)
   R = elements field.ring
 
-  abbrev v : ℕ → ℕ → Element r
-  v = rows_of r (entry r rows) (rows_in r field.ring.closed.zero_in w rows rowsi)
+  -- Coefficients with one combination are equal where they are at the rows that depend on the rows before them.
+  same_coefficients : (n : ℕ) (v : ℕ → ℕ → Element r) (cs ds : ℕ → Element r) → ((j : ℕ) → combine R n cs v j ≡ combine R n ds v j)
+      → ((k : ℕ) → k < n → Depends R v k → cs k ≡ ds k) → ((i : ℕ) → n ≤ i → cs i ≡ ds i) → (i : ℕ) → cs i ≡ ds i
+  same_coefficients n v cs ds same at_dependent past i =
+      minus_same R (cs i) (ds i)
+      (zero_from R (inverse r inv field) n v (λ k. R.add (cs k) (R.neg (ds k)))
+      (λ j.
+      combine_add R n cs (λ k. R.neg (ds k)) v j ∙ ap (R.add (combine R n cs v j)) (combine_neg R n ds v j)
+      ∙ minus_self R _ _ (same j))
+      (λ k l s. minus_self R _ _ (at_dependent k l s)) n (omega arith) (λ k l. minus_self R _ _ (past k l)) i)
 
-  abbrev coefficients : (u : List E) → is_row r (length rows) u ≡ true → ℕ → Element r
-  coefficients u ui = row_of r (coeff r u) (elem_read r u field.ring.closed.zero_in (row_elems r (length rows) u ui))
+  module _ (w : ℕ) (rows : List (List E)) (rowsi : are_rows r w rows ≡ true) where
+    abbrev v : ℕ → ℕ → Element r
+    v = rows_of r (entry r rows) (rows_in r field.ring.closed.zero_in w rows rowsi)
 
-  abbrev cs : ℕ → Element r
-  cs = coefficients c sc.shape
+    abbrev coefficients : (n : ℕ) (u : List E) → is_row r n u ≡ true → ℕ → Element r
+    coefficients n u ui = row_of r (coeff r u) (elem_read r u field.ring.closed.zero_in (row_elems r n u ui))
 
-  abbrev ds : ℕ → Element r
-  ds = coefficients d sd.shape
+    same_past : (n : ℕ) (c d : List E) → is_row r n c ≡ true → is_row r n d ≡ true → (i : ℕ) → n ≤ i → coeff r c i ≡ coeff r d i
+    same_past n c d ci di i l =
+        coeff_past r c i (omega (arith, row_len r n c ci, l)) ∙ sym (coeff_past r d i (omega (arith, row_len r n d di, l)))
 
-  gives : (u : List E) (s : IsSolution r rows target u) (j : ℕ) → (combine R (length rows) (coefficients u s.shape) v j).0 ≡ coeff r target j
-  gives u s j = combine_value r field.ring (length rows) (coefficients u s.shape) v j ∙ sym (s.is j)
+    -- the lists `c` and `d` give `x` as combinations of the first `n` rows
+    same_list : (n : ℕ) (x : ℕ → E) (c d : List E) (ci : is_row r n c ≡ true) (di : is_row r n d ≡ true)
+        → ((j : ℕ) → x j ≡ combined r n (coeff r c) (entry r rows) j) → ((j : ℕ) → x j ≡ combined r n (coeff r d) (entry r rows) j)
+        → ((k : ℕ) → k < n → IsDependent r rows k → coeff r c k ≡ coeff r d k) → c ≡ d
+    same_list n x c d ci di sum_c sum_d at_dependent =
+        same_row r n c d ci di (λ i.
+        ap (λ y. y.0)
+        (same_coefficients n v (coefficients n c ci) (coefficients n d di)
+        (λ j. same_element r _ _ (gives c ci sum_c j ∙ sym (gives d di sum_d j)))
+        (λ k l s. same_element r _ _ (at_dependent k l (from_spans r field.ring k (entry r rows) into (entry r rows k) (into k) s)))
+        (λ k l. same_element r _ _ (same_past n c d ci di k l)) i))
+      where
+        into : AllIn r (entry r rows)
+        into = rows_in r field.ring.closed.zero_in w rows rowsi
 
-  difference : (j : ℕ) → combine R (length rows) (λ i. R.add (cs i) (R.neg (ds i))) v j ≡ R.zero
-  difference j =
-      combine_add R (length rows) cs (λ i. R.neg (ds i)) v j
-      ∙ ap₂ R.add (same_element r _ _ (gives c sc j ∙ sym (gives d sd j))) (combine_neg R (length rows) ds v j)
-      ∙ R.add_neg (combine R (length rows) ds v j)
+        gives : (u : List E) (ui : is_row r n u ≡ true) → ((j : ℕ) → x j ≡ combined r n (coeff r u) (entry r rows) j)
+            → (j : ℕ) → (combine R n (coefficients n u ui) v j).0 ≡ x j
+        gives u ui sum j = combine_value r field.ring n (coefficients n u ui) v j ∙ sym (sum j)
 
-  both_zero : (x y : Element r) → x ≡ R.zero → y ≡ R.zero → R.add x (R.neg y) ≡ R.zero
-  both_zero x y e f = ap₂ (λ a b. R.add a (R.neg b)) e f ∙ ap (R.add R.zero) (neg_zero R) ∙ R.zero_add R.zero
+    pub same_solution : (target c d : List E) → IsSolution r rows target c → IsSolution r rows target d → c ≡ d
+    same_solution target c d sc sd =
+        same_list (length rows) (coeff r target) c d sc.shape sd.shape sc.is sd.is (λ k l s. sc.zero k l s ∙ sym (sd.zero k l s))
 
-  at_dependent : (k : ℕ) → k < length rows → Depends R v k → R.add (cs k) (R.neg (ds k)) ≡ R.zero
-  at_dependent k l s =
-      let dep = from_spans r field.ring k (entry r rows) (rows_in r field.ring.closed.zero_in w rows rowsi) (entry r rows k) (rows_in r field.ring.closed.zero_in w rows rowsi k) s in
-      both_zero (cs k) (ds k) (same_element r _ _ (sc.zero k l dep)) (same_element r _ _ (sd.zero k l dep))
+    -- the row of the first dependence is a combination of the rows before it
+    dependent : (k : ℕ) (c : List E) → IsFirstDependence r rows k c → IsDependent r rows k
+    dependent k c s = record {
+      by = coeff r c;
+      elems = elem_read r c field.ring.closed.zero_in (row_elems r k c s.shape);
+      is = s.is;
+    }
 
-  past : (i : ℕ) → length rows ≤ i → R.add (cs i) (R.neg (ds i)) ≡ R.zero
-  past i l =
-      both_zero (cs i) (ds i)
-      (same_element r _ _ (coeff_past r c i (omega (arith, row_len r (length rows) c sc.shape, l))))
-      (same_element r _ _ (coeff_past r d i (omega (arith, row_len r (length rows) d sd.shape, l))))
+    same_place : (k l : ℕ) (c d : List E) → IsFirstDependence r rows k c → IsFirstDependence r rows l d → k ≡ l
+    same_place k l c d sc sd = elim (cases_lt k l) [
+      | inl low ↦ absurd (sd.least k low (dependent k c sc))
+      | inr not_low ↦ elim (cases_lt l k) [
+        | inl high ↦ absurd (sc.least l high (dependent l d sd))
+        | inr not_high ↦ omega arith
+      ]
+    ]
 
-  pub same_solution : c ≡ d
-  same_solution = same_row r (length rows) c d sc.shape sd.shape (λ k.
-      ap (λ x. x.0) (minus_same R (cs k) (ds k)
-      (zero_from R (inverse r inv field) (length rows) v (λ i. R.add (cs i) (R.neg (ds i))) difference at_dependent (length rows) (omega arith) past k)))
+    pub same_dependence : (k l : ℕ) (c d : List E) → IsFirstDependence r rows k c → IsFirstDependence r rows l d → (k ≡ l) × (c ≡ d)
+    same_dependence k l c d sc sd =
+        let e = same_place k l c d sc sd in
+        (e, at_one (subst (λ m. IsFirstDependence r rows m d) (sym e) sd))
+      where
+        at_one : IsFirstDependence r rows k d → c ≡ d
+        at_one s = same_list k (entry r rows k) c d sc.shape s.shape sc.is s.is (λ i l t. absurd (sc.least i l t))

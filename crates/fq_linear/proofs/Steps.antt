@@ -10,8 +10,8 @@ use Rattle.linear_algebra.proofs.Lift.{AllIn, AreIn, combines_into, combines_row
 use Rattle.linear_algebra.specs.Linear.{entry, row_at}
 use Rattle.fq_linear.specs.Table.{row_cells, table_rows}
 use Rattle.fq_linear.proofs.Tables.{row_at-table}
-use Rattle.fq_linear.specs.Places.{cleared, unit_row}
-use Rattle.fq_linear.specs.Elimination.{row_number, is_lead, numbered_cells, slot, IsTable, IsInserted, IsEliminated, augmented}
+use Rattle.fq_linear.specs.steps.Places.{cleared, unit_row}
+use Rattle.fq_linear.specs.steps.Elimination.{row_number, is_lead, numbered_cells, slot, IsReducedTable, IsInserted, IsEliminated, augmented}
 use Rattle.fq_linear.proofs.Slots.{slot_in, none_is_not}
 
 module _ {E : Type 0} (r : RingOps E) (h : IsRing r) where
@@ -47,7 +47,7 @@ module _ {E : Type 0} (r : RingOps E) (h : IsRing r) where
   empty_lead : (index : List (Option ℕ)) (j : ℕ) → row_number index j ≡ None → is_lead index j ≡ true → ⊥
   empty_lead index j e l = let f : is_some (row_number index j) ≡ false = ap is_some e in cc
 
-  pub empty_table : (w : ℕ) (index : List (Option ℕ)) (cells : List E) → length index ≡ w → are_elems r cells ≡ true → ((j : ℕ) → row_number index j ≡ None) → IsTable r w index cells
+  pub empty_table : (w : ℕ) (index : List (Option ℕ)) (cells : List E) → length index ≡ w → are_elems r cells ≡ true → ((j : ℕ) → row_number index j ≡ None) → IsReducedTable r w index cells
   empty_table w index cells len ci e = record {
     index_len = len;
     elems = ci;
@@ -71,7 +71,7 @@ module _ {E : Type 0} (r : RingOps E) (h : IsRing r) where
 
   -- one more row is inserted
   pub eliminated_more : (w n : ℕ) (rows : ℕ → ℕ → E) (index mark : List (Option ℕ)) (cells after : List E) (x : ℕ → E) → AllIn r rows
-      → IsEliminated r w n rows index cells → IsTable r w mark after → ((k : ℕ) → x k ≡ rows n k)
+      → IsEliminated r w n rows index cells → IsReducedTable r w mark after → ((k : ℕ) → x k ≡ rows n k)
       → IsInserted r w (slot r w index cells) (slot r w mark after) x → IsEliminated r w (n + 1) rows mark after
   eliminated_more w n rows index mark cells after x ri old t e g =
       let bi = slot_in r h w index cells old.table.elems in

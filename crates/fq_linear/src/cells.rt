@@ -3,7 +3,7 @@
 ghost use Rattle.std.specs.Prelude.{◌≡◌, ◌+◌, ◌<◌, ◌≤◌, ℕ, ◌↔◌, true, length, replicate, IfOk, MatchOption, IsTrue, slice_index_or};
 ghost use Rattle.ring_core.specs.Ring.{IsElem};
 ghost use Rattle.ring_core.specs.Coeffs.{coeff, are_elems, first_values};
-ghost use Rattle.fq_linear.specs.Places.{IsWritten, IsTop, IsMonic, cleared, unit_row};
+ghost use Rattle.fq_linear.specs.steps.Places.{IsWritten, IsHighestPlace, IsMonicMultiple, cleared, unit_row};
 
 use ring_core::lists::coeff_at;
 use ring_core::{E, Field, NoMemory};
@@ -57,7 +57,7 @@ pub(super) fn clear_at<F: Field>(f: &F, cells: &mut [E<F>], at: usize, l: usize,
 /// The highest place that is not zero.
 pub(super) fn top_place<F: Field>(f: &F, row: &[E<F>]) -> Option<usize>
     requires { are_elems (F.ops f.now) row.now ≡ true }
-    ensures { let r = F.ops f.now in MatchOption result ((k : ℕ) → coeff r row.now k ≡ r.zero) (IsTop r row.now) }
+    ensures { let r = F.ops f.now in MatchOption result ((k : ℕ) → coeff r row.now k ≡ r.zero) (IsHighestPlace r row.now) }
 {
     for l in (0..row.len()).rev() {
         if !f.equal(coeff_at(f, row, l), f.zero()) {
@@ -84,10 +84,10 @@ pub(super) fn scale_first<F: Field>(f: &F, n: usize, c: E<F>, row: &mut [E<F>])
 /// Divides the row by its highest member that is not zero, at `l`; a row with one there stays as it is.
 pub(super) fn make_monic<F: Field>(f: &F, l: usize, row: &mut [E<F>])
     requires row { are_elems (F.ops f.now) row.old ≡ true }
-    requires top { IsTop (F.ops f.now) row.old l }
+    requires top { IsHighestPlace (F.ops f.now) row.old l }
     ensures len { length row.new ≡ length row.old }
     ensures elems { are_elems (F.ops f.now) row.new ≡ true }
-    ensures monic { IsMonic (F.ops f.now) l (coeff (F.ops f.now) row.old) (coeff (F.ops f.now) row.new) }
+    ensures monic { IsMonicMultiple (F.ops f.now) l (coeff (F.ops f.now) row.old) (coeff (F.ops f.now) row.new) }
 {
     let top = coeff_at(f, row, l);
     if f.equal(top, f.one()) {

@@ -6,9 +6,9 @@ ghost use Rattle.ring_core.specs.Ring.{IsElem};
 ghost use Rattle.ring_core.specs.Coeffs.{coeff, are_elems};
 ghost use Rattle.linear_algebra.specs.Combines.{Combines, minus};
 ghost use Rattle.linear_algebra.specs.Linear.{entry, are_rows};
-ghost use Rattle.fq_linear.specs.Places.{cleared};
+ghost use Rattle.fq_linear.specs.steps.Places.{cleared};
 ghost use Rattle.fq_linear.specs.Table.{row_cells};
-ghost use Rattle.fq_linear.specs.Elimination.{row_number, is_lead, slot, IsTable, IsBelow, CanJoin, IsInserted, augmented, IsEliminated};
+ghost use Rattle.fq_linear.specs.steps.Elimination.{row_number, is_lead, slot, IsReducedTable, IsBelow, CanJoin, IsInserted, augmented, IsEliminated};
 
 use super::cells::{clear_at, filled, make_monic, top_place, write_at, write_unit};
 use super::rows::Rows;
@@ -30,7 +30,7 @@ fn clear_by_slot<F: Field>(
     cells: &[E<F>],
     row: &mut [E<F>],
 )
-    requires table { IsTable (F.ops f.now) (length row.old) index.now cells.now }
+    requires table { IsReducedTable (F.ops f.now) (length row.old) index.now cells.now }
     requires row { are_elems (F.ops f.now) row.old ≡ true }
     requires place { j < length row.old }
     ensures len { length row.new ≡ length row.old }
@@ -45,7 +45,7 @@ fn clear_by_slot<F: Field>(
 
 /// Clears the row at all leads by the rows of the table.
 pub(super) fn reduce_row<F: Field>(f: &F, index: &[Option<usize>], cells: &[E<F>], row: &mut [E<F>])
-    requires table { IsTable (F.ops f.now) (length row.old) index.now cells.now }
+    requires table { IsReducedTable (F.ops f.now) (length row.old) index.now cells.now }
     requires row { are_elems (F.ops f.now) row.old ≡ true }
     ensures len { length row.new ≡ length row.old }
     ensures elems { are_elems (F.ops f.now) row.new ≡ true }
@@ -83,13 +83,13 @@ fn keep_row<F: Field>(
     cells: &mut [E<F>],
     row: &[E<F>],
 )
-    requires table { IsTable (F.ops f.now) (length row.now) index.old cells.old }
+    requires table { IsReducedTable (F.ops f.now) (length row.now) index.old cells.old }
     requires below { IsBelow count index.old }
     requires room { count * length row.now + length row.now ≤ length cells.old }
     requires row { are_elems (F.ops f.now) row.now ≡ true }
     requires joins { CanJoin (F.ops f.now) index.old row.now l }
     ensures cells_len { length cells.new ≡ length cells.old }
-    ensures table { IsTable (F.ops f.now) (length row.now) index.new cells.new }
+    ensures table { IsReducedTable (F.ops f.now) (length row.now) index.new cells.new }
     ensures below { IsBelow (count + 1) index.new }
     ensures inserted { let r = F.ops f.now in let w = length row.now in IsInserted r w (slot r w index.old cells.old) (slot r w index.new cells.new) (coeff r row.now) }
 {
@@ -106,14 +106,14 @@ fn insert_row<F: Field>(
     cells: &mut [E<F>],
     row: &mut [E<F>],
 )
-    requires table { IsTable (F.ops f.now) (length row.old) index.old cells.old }
+    requires table { IsReducedTable (F.ops f.now) (length row.old) index.old cells.old }
     requires below { IsBelow count index.old }
     requires room { count * length row.old + length row.old ≤ length cells.old }
     requires row { are_elems (F.ops f.now) row.old ≡ true }
     ensures row_len { length row.new ≡ length row.old }
     ensures row_elems { are_elems (F.ops f.now) row.new ≡ true }
     ensures cells_len { length cells.new ≡ length cells.old }
-    ensures table { IsTable (F.ops f.now) (length row.old) index.new cells.new }
+    ensures table { IsReducedTable (F.ops f.now) (length row.old) index.new cells.new }
     ensures below { IsBelow (count + 1) index.new }
     ensures inserted { let r = F.ops f.now in let w = length row.old in IsInserted r w (slot r w index.old cells.old) (slot r w index.new cells.new) (coeff r row.old) }
 {

@@ -2,7 +2,7 @@
 
 ghost use Rattle.std.specs.Prelude.{◌≡◌, ◌+◌, ◌*◌, ◌≤◌, ℕ, ◌++◌, length, Some, IfOk, OnOk, map};
 ghost use Rattle.linear_algebra.proofs.Gather.{leads};
-ghost use Rattle.fq_linear.specs.Elimination.{row_number, is_lead, numbered_cells, numbered_rows, IsStored};
+ghost use Rattle.fq_linear.specs.steps.Elimination.{row_number, is_lead, numbered_cells, numbered_rows, HasRowsWithin};
 
 use super::rows::Rows;
 use ring_core::NoMemory;
@@ -35,7 +35,7 @@ pub(super) fn gather<T: Copy>(
     cells: &[T],
 ) -> Result<Rows<T>, NoMemory>
     requires cut { cut ≤ length index.now }
-    requires stored { IsStored (length index.now) index.now (length cells.now) }
+    requires stored { HasRowsWithin (length index.now) index.now (length cells.now) }
     ensures width { IfOk result (λ v. v.width ≡ cut) }
     ensures rows { IfOk result (λ v. v.rows ≡ map (λ j. numbered_cells (length index.now) cut cells.now (row_number index.now j)) (leads (is_lead index.now) cut)) }
 {

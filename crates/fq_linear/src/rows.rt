@@ -72,11 +72,12 @@ impl<E: Copy> Rows<E> {
         &self.cells
     }
 
-    /// Member `j` of row `i`.
+    /// Member `j` of row `i`, which has `width` members.
     pub fn at(&self, i: usize, j: usize) -> E
         requires row { i < length self.now.rows }
         requires place { j < self.now.width }
-        ensures { result ≡ slice_index_or (row_at self.now.rows i) j result }
+        ensures within { j < length (row_at self.now.rows i) }
+        ensures value { (past : E) → result ≡ slice_index_or (row_at self.now.rows i) j past }
     {
         cell_at(&self.cells, self.len, self.width, i, j)
     }
@@ -87,7 +88,8 @@ fn cell_at<E: Copy>(cells: &[E], n: usize, w: usize, i: usize, j: usize) -> E
     requires row { i < n }
     requires place { j < w }
     requires cells { length cells.now ≡ n * w }
-    ensures { result ≡ slice_index_or cells.now (i * w + j) result }
+    ensures within { i * w + j < length cells.now }
+    ensures value { result ≡ slice_index_or cells.now (i * w + j) result }
 {
     cells[i * w + j]
 }

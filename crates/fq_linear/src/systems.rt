@@ -3,7 +3,7 @@
 ghost use Rattle.std.specs.Prelude.{◌≡◌, ◌+◌, ◌≤◌, ◌<◌, ℕ, true, false, length, IfOk, MatchOption, IsTrue, ◌↔◌};
 ghost use Rattle.ring_core.specs.Coeffs.{coeff, are_elems};
 ghost use Rattle.linear_algebra.specs.Linear.{are_rows, is_row, IsCombination, IsRelation, IsIndependent, IsEchelonBasis, IsOnlySolution, IsFirstDependence};
-ghost use Rattle.fq_linear.specs.Elimination.{is_lead, IsTable, IsReducedTarget, IsFirstLead};
+ghost use Rattle.fq_linear.specs.steps.Elimination.{is_lead, IsReducedTable, IsReducedTarget, IsFirstLead};
 
 use super::cells::{filled, is_zero_from, negatives, write_at};
 use super::eliminate::{eliminate, reduce_row};
@@ -49,7 +49,7 @@ fn reduce_target<F: Field>(
     target: &[E<F>],
     row: &mut [E<F>],
 ) -> bool
-    requires table { IsTable (F.ops f.now) (length row.old) index.now cells.now }
+    requires table { IsReducedTable (F.ops f.now) (length row.old) index.now cells.now }
     requires target { are_elems (F.ops f.now) target.now ≡ true }
     requires row { are_elems (F.ops f.now) row.old ≡ true }
     requires row_len { length row.old ≡ n + length target.now }

@@ -32,6 +32,10 @@ module _ {M : Type 0} (R : RingOn M) (n : ℕ) (at : ℕ → ℕ) (rows : ℕ �
       total_single R n k _ l (λ i b ne. ap (R.mul (c i)) (h.apart i k b l ne) ∙ mul_zero R (c i))
       ∙ ap (R.mul (c k)) (h.one k l) ∙ R.mul_one (c k)
 
+  -- a row has at most one list of coefficients
+  pub one_combination : (c d : ℕ → M) → ((j : ℕ) → combine R n c rows j ≡ combine R n d rows j) → (i : ℕ) → i < n → c i ≡ d i
+  one_combination c d e i l = sym (at_lead c i l) ∙ e (at i) ∙ at_lead d i l
+
   pub rising_zero : (x : ℕ → M) → Spans R n rows x → ((k : ℕ) → k < n → x (at k) ≡ R.zero) → (j : ℕ) → x j ≡ R.zero
   rising_zero x s z j = s.is j ∙ total_zero R n _ (λ i l.
       ap (λ a. R.mul a (rows i j)) (sym (at_lead s.by i l) ∙ sym (s.is (at i)) ∙ z i l) ∙ zero_mul R (rows i j))

@@ -104,6 +104,12 @@ module _ {E : Type 0} (r : RingOps E) (h : IsRing r) where
   combined_rows (suc n) c a b j e =
       ap₂ r.add (combined_rows n c a b j (λ i l. e i (omega arith))) (ap (r.mul (c n)) (e n (omega arith)))
 
+  -- the coefficients told by their values
+  pub combined_by : (n : ℕ) (c d : ℕ → E) (rows : ℕ → ℕ → E) (j : ℕ) → ((i : ℕ) → i < n → c i ≡ d i) → combined r n c rows j ≡ combined r n d rows j
+  combined_by zero c d rows j e = refl
+  combined_by (suc n) c d rows j e =
+      ap₂ r.add (combined_by n c d rows j (λ i l. e i (omega arith))) (ap (λ a. r.mul a (rows n j)) (e n (omega arith)))
+
   pub combines_rows : (n : ℕ) (a b : ℕ → ℕ → E) (x : ℕ → E) → ((i : ℕ) → i < n → (j : ℕ) → a i j ≡ b i j) → Combines r n a x → Combines r n b x
   combines_rows n a b x e s = record {
     by = s.by;

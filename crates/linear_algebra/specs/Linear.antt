@@ -48,6 +48,12 @@ pub record IsEchelonBasis {E : Type 0} (r : RingOps E) (w : ℕ) (P : List E →
   pub echelon : IsEchelon r basis
   pub spans : (x : List E) → is_row r w x ≡ true → P x ↔ IsCombination r basis x
 
+-- `x` is the combination of the rows with the coefficients `c`, one for each row, and with no others.
+pub record IsOnlyCombination {E : Type 0} (r : RingOps E) (rows : List (List E)) (x c : List E) : Type 0 where
+  pub shape : is_row r (length rows) c ≡ true
+  pub is : (j : ℕ) → coeff r x j ≡ combined r (length rows) (coeff r c) (entry r rows) j
+  pub only : (d : List E) → is_row r (length rows) d ≡ true → ((j : ℕ) → coeff r x j ≡ combined r (length rows) (coeff r d) (entry r rows) j) → d ≡ c
+
 -- Coefficients of `target`, with zero at each row that is a combination of the rows before it.
 pub record IsSolution {E : Type 0} (r : RingOps E) (rows : List (List E)) (target c : List E) : Type 0 where
   pub shape : is_row r (length rows) c ≡ true

@@ -1,6 +1,6 @@
 use Rattle.std.proofs.Common.{◌≡◌, ◌+◌, ◌<◌, length, get_or, refl, ◌∙◌, subst, arith, length-set}
 use Rattle.std.proofs.lemmas.List.{get_or_read}
-use Rattle.fq_linear.specs.Places.{IsWritten}
+use Rattle.fq_linear.specs.steps.Places.{IsWritten}
 use Rattle.fq_linear.proofs.Places.{written_more}
 use Rattle.fq_linear.proofs.cells.write_at.Goals as goal
 

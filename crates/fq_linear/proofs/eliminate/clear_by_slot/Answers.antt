@@ -1,5 +1,5 @@
 use Rattle.std.proofs.Common.{length, refl}
-use Rattle.fq_linear.specs.Elimination.{row_number}
+use Rattle.fq_linear.specs.steps.Elimination.{row_number}
 use Rattle.fq_linear.proofs.Places.{elems_range}
 use Rattle.fq_linear.proofs.Tables.{length-range_within}
 use Rattle.fq_linear.proofs.Slots.{none_left, cleared_some, cleared_none}

@@ -1,6 +1,6 @@
 use Rattle.std.proofs.Common.{◌≡◌, ℕ, ◌+◌, ◌*◌, ◌<◌, ◌≤◌, true, length}
 use Rattle.ring_core.specs.Coeffs.{coeff, are_elems}
-use Rattle.fq_linear.specs.Places.{cleared}
+use Rattle.fq_linear.specs.steps.Places.{cleared}
 use Rattle.fq_linear.proofs.eliminate.clear_rows.Given as goal
 
 abbrev pub invariant-loop-i : goal.invariant-loop-i

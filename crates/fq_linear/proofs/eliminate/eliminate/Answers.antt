@@ -2,7 +2,7 @@ use Rattle.std.proofs.Common.{◌≡◌, ◌+◌, length, sym, ◌∙◌, ap, su
 use Rattle.ring_core.specs.Coeffs.{coeff, are_elems}
 use Rattle.linear_algebra.specs.Linear.{entry, are_rows}
 use Rattle.fq_linear.specs.Table.{row_cells}
-use Rattle.fq_linear.specs.Elimination.{IsEliminated, augmented}
+use Rattle.fq_linear.specs.steps.Elimination.{IsEliminated, augmented}
 use Rattle.fq_linear.proofs.Places.{elem_as, elems_replicate}
 use Rattle.fq_linear.proofs.Tables.{elems_of_rows}
 use Rattle.fq_linear.proofs.Steps.{eliminated_rows}

@@ -1,7 +1,7 @@
 use Rattle.std.proofs.Common.{◌≡◌, ◌+◌, ◌*◌, true, length}
 use Rattle.ring_core.specs.Coeffs.{coeff, are_elems}
 use Rattle.fq_linear.specs.Table.{row_cells}
-use Rattle.fq_linear.specs.Elimination.{IsEliminated, IsBelow, augmented}
+use Rattle.fq_linear.specs.steps.Elimination.{IsEliminated, IsBelow, augmented}
 use Rattle.fq_linear.proofs.eliminate.insert_all.Given as goal
 
 abbrev pub invariant-loop-i : goal.invariant-loop-i

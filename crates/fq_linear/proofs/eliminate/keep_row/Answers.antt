@@ -1,7 +1,7 @@
 use Rattle.std.proofs.Common.{ℕ, ◌+◌, ◌*◌, ◌<◌, ◌≤◌, Some, length, set, refl, sym, ◌∙◌, subst, arith, length-set}
 use Rattle.ring_core.specs.Coeffs.{coeff}
 use Rattle.ring_core.proofs.Coefficients.{elem_read}
-use Rattle.fq_linear.specs.Elimination.{is_lead, slot, IsStored}
+use Rattle.fq_linear.specs.steps.Elimination.{is_lead, slot, HasRowsWithin}
 use Rattle.fq_linear.proofs.Places.{elems_written}
 use Rattle.fq_linear.proofs.Slots.{slot_in, below_joined, stored_joined}
 use Rattle.fq_linear.proofs.Joined.{joined_to, joined_reduced, joined_inserted}
@@ -35,7 +35,7 @@ returns g c =
         index_len = length-set _ _ _ ∙ t.index_len;
         elems = elems;
         stored = stored_joined index c.args.l c.args.count w (length after) inside (subst (λ (m : ℕ). c.args.count * w + w ≤ m) (sym len) c.requires.room)
-            (subst (IsStored w index) (sym len) t.stored);
+            (subst (HasRowsWithin w index) (sym len) t.stored);
         reduced = joined_reduced r ring w index cells row c.args.l (is_lead mark) (slot r w mark after) c.requires.row refl t joins joined ai;
       };
       below = below_joined index c.args.l c.args.count inside c.requires.below;

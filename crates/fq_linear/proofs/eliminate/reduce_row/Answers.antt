@@ -1,8 +1,8 @@
 use Rattle.std.proofs.Common.{ℕ, length, refl, ◌∙◌, ap, arith}
 use Rattle.ring_core.specs.Coeffs.{coeff}
 use Rattle.ring_core.proofs.Coefficients.{elem_read}
-use Rattle.fq_linear.specs.Places.{cleared}
-use Rattle.fq_linear.specs.Elimination.{is_lead, slot}
+use Rattle.fq_linear.specs.steps.Places.{cleared}
+use Rattle.fq_linear.specs.steps.Elimination.{is_lead, slot}
 use Rattle.fq_linear.proofs.Slots.{slot_in}
 use Rattle.fq_linear.proofs.Steps.{taken_none, taken_more, clear_more}
 use Rattle.fq_linear.proofs.eliminate.reduce_row.Goals as goal

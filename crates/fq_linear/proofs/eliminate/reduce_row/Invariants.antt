@@ -1,7 +1,7 @@
 use Rattle.std.proofs.Common.{◌≡◌, ℕ, ◌<◌, true, length}
 use Rattle.ring_core.specs.Coeffs.{coeff, are_elems}
 use Rattle.linear_algebra.specs.Combines.{Combines, minus}
-use Rattle.fq_linear.specs.Elimination.{is_lead, slot}
+use Rattle.fq_linear.specs.steps.Elimination.{is_lead, slot}
 use Rattle.fq_linear.proofs.eliminate.reduce_row.Given as goal
 
 abbrev pub invariant-loop-j : goal.invariant-loop-j

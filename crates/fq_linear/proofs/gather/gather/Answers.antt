@@ -1,5 +1,5 @@
 use Rattle.std.proofs.Common.{◌++◌, length, ◌∙◌, ap}
-use Rattle.fq_linear.specs.Elimination.{row_number, numbered_rows}
+use Rattle.fq_linear.specs.steps.Elimination.{row_number, numbered_rows}
 use Rattle.fq_linear.proofs.Gathered.{gathered_more}
 use Rattle.fq_linear.proofs.gather.gather.Goals as goal
 

@@ -1,6 +1,6 @@
 use Rattle.std.proofs.Common.{◌≡◌, length, map}
 use Rattle.linear_algebra.proofs.Gather.{leads}
-use Rattle.fq_linear.specs.Elimination.{row_number, is_lead, numbered_cells}
+use Rattle.fq_linear.specs.steps.Elimination.{row_number, is_lead, numbered_cells}
 use Rattle.fq_linear.proofs.gather.gather.Given as goal
 
 abbrev pub invariant-loop-j : goal.invariant-loop-j

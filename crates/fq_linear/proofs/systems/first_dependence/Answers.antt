@@ -1,7 +1,7 @@
 use Rattle.std.proofs.Common.{◌≡◌, ◌+◌, ◌*◌, ◌<◌, length, sym, ◌∙◌, ap, ap₂, subst, arith, slice_range}
 use Rattle.ring_core.specs.Coeffs.{coeff, are_elems, first_values}
 use Rattle.linear_algebra.specs.Linear.{entry, IsFirstDependence}
-use Rattle.fq_linear.specs.Elimination.{row_number, is_lead, IsEliminated, augmented}
+use Rattle.fq_linear.specs.steps.Elimination.{row_number, is_lead, IsEliminated, augmented}
 use Rattle.fq_linear.proofs.Places.{elems_range}
 use Rattle.fq_linear.proofs.Slots.{when_none}
 use Rattle.fq_linear.proofs.Results.{independent, first_dependence_from}

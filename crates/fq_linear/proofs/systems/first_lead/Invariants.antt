@@ -1,5 +1,5 @@
 use Rattle.std.proofs.Common.{◌≡◌, ℕ, ◌<◌, false}
-use Rattle.fq_linear.specs.Elimination.{is_lead}
+use Rattle.fq_linear.specs.steps.Elimination.{is_lead}
 use Rattle.fq_linear.proofs.systems.first_lead.Given as goal
 
 abbrev pub invariant-loop-k : goal.invariant-loop-k

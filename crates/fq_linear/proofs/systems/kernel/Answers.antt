@@ -1,6 +1,6 @@
 use Rattle.std.proofs.Common.{◌+◌, length, subst}
 use Rattle.linear_algebra.specs.Linear.{entry}
-use Rattle.fq_linear.specs.Elimination.{IsEliminated, augmented}
+use Rattle.fq_linear.specs.steps.Elimination.{IsEliminated, augmented}
 use Rattle.fq_linear.proofs.Gathered.{gathered_as}
 use Rattle.fq_linear.proofs.Results.{kernel_is}
 use Rattle.fq_linear.proofs.systems.kernel.Goals as goal

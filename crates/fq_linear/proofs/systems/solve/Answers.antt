@@ -3,7 +3,7 @@ use Rattle.std.proofs.lemmas.List.{length-take-le, length-replicate}
 use Rattle.ring_core.specs.Coeffs.{coeff, are_elems}
 use Rattle.ring_core.proofs.Coefficients.{elems_take}
 use Rattle.linear_algebra.specs.Linear.{entry, IsSolution}
-use Rattle.fq_linear.specs.Elimination.{IsEliminated, augmented}
+use Rattle.fq_linear.specs.steps.Elimination.{IsEliminated, augmented}
 use Rattle.fq_linear.proofs.Places.{elem_as, elems_replicate}
 use Rattle.fq_linear.proofs.Results.{solved, unsolved, reduced_as, not_both}
 use Rattle.fq_linear.proofs.Solutions.{same_solution}
@@ -65,5 +65,5 @@ returns g c =
     let solves = subst (IsSolution r rows.rows target) (sym c.in_ok-solution.ensures) found in
     record {
       solves = solves;
-      only = λ x s. same_solution r inv field rows.width rows.rows target x _ c.requires.rows s solves;
+      only = λ x s. same_solution r inv field rows.width rows.rows c.requires.rows target x _ s solves;
     }

@@ -9,13 +9,13 @@ pub record IsWritten {E : Type 0} (d : E) (at n : ℕ) (f : ℕ → E) (before a
   pub outside : (i : ℕ) → (i < at) ⊎ (at + n ≤ i) → slice_index_or after i d ≡ slice_index_or before i d
 
 -- `l` is the highest place of the row that is not zero.
-pub record IsTop {E : Type 0} (r : RingOps E) (row : List E) (l : ℕ) : Type 0 where
+pub record IsHighestPlace {E : Type 0} (r : RingOps E) (row : List E) (l : ℕ) : Type 0 where
   pub within : l < length row
   pub nonzero : coeff r row l ≢ r.zero
   pub above : (k : ℕ) → l < k → coeff r row k ≡ r.zero
 
 -- A multiple of `before` with one at `l`, which `before` is a multiple of.
-pub record IsMonic {E : Type 0} (r : RingOps E) (l : ℕ) (before after : ℕ → E) : Type 0 where
+pub record IsMonicMultiple {E : Type 0} (r : RingOps E) (l : ℕ) (before after : ℕ → E) : Type 0 where
   pub factor : E
   pub elem : IsElem r factor
   pub is : (k : ℕ) → after k ≡ r.mul factor (before k)

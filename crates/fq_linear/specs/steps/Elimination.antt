@@ -3,7 +3,7 @@ use Rattle.std.specs.Prelude.{◌≡◌, ℕ, ◌+◌, ◌*◌, ◌<◌, ◌≤�
 use Rattle.ring_core.specs.Ring.{RingOps, IsElem}
 use Rattle.ring_core.specs.Coeffs.{coeff, are_elems}
 use Rattle.linear_algebra.specs.Combines.{Combines, minus, IsReduced, beside}
-use Rattle.fq_linear.specs.Places.{unit_row}
+use Rattle.fq_linear.specs.steps.Places.{unit_row}
 
 -- The number of the row with lead `j`.
 abbrev pub row_number : List (Option ℕ) → ℕ → Option ℕ
@@ -22,14 +22,14 @@ abbrev pub slot : {E : Type 0} → RingOps E → ℕ → List (Option ℕ) → L
 slot r w index cells j k = coeff r (numbered_cells w w cells (row_number index j)) k
 
 -- The rows of the index lie within `len` cells.
-pub record IsStored (w : ℕ) (index : List (Option ℕ)) (len : ℕ) : Type 0 where
+pub record HasRowsWithin (w : ℕ) (index : List (Option ℕ)) (len : ℕ) : Type 0 where
   pub is : (j i : ℕ) → row_number index j ≡ Some i → i * w + w ≤ len
 
 -- The rows in the index are reduced.
-pub record IsTable {E : Type 0} (r : RingOps E) (w : ℕ) (index : List (Option ℕ)) (cells : List E) : Type 0 where
+pub record IsReducedTable {E : Type 0} (r : RingOps E) (w : ℕ) (index : List (Option ℕ)) (cells : List E) : Type 0 where
   pub index_len : length index ≡ w
   pub elems : are_elems r cells ≡ true
-  pub stored : IsStored w index (length cells)
+  pub stored : HasRowsWithin w index (length cells)
   pub reduced : IsReduced r w (is_lead index) (slot r w index cells)
 
 -- Only the first `count` rows of the table are in the index.
@@ -57,7 +57,7 @@ augmented r n rows i = beside n (unit_row r i) (rows i)
 
 -- The table holds reduced rows with the span of the first `n` rows.
 pub record IsEliminated {E : Type 0} (r : RingOps E) (w n : ℕ) (rows : ℕ → ℕ → E) (index : List (Option ℕ)) (cells : List E) : Type 0 where
-  pub table : IsTable r w index cells
+  pub table : IsReducedTable r w index cells
   pub within : (j : ℕ) → j < w → Combines r n rows (slot r w index cells j)
   pub holds : (i : ℕ) → i < n → Combines r w (slot r w index cells) (rows i)
 
