@@ -15,7 +15,7 @@ ghost use Rattle.field_tower.specs.MakeBase.{MakesBase, IsBaseOf, IsFaultOf, red
 use super::accept::find_pair;
 use super::codes::number;
 use super::fault::BaseFault;
-use super::prime::Prime;
+use super::prime::PrimeField;
 use super::size::{is_listed, size};
 use super::tables::{negative_row, product_table, sum_table};
 use residue_field::Code;
@@ -87,7 +87,7 @@ impl BaseField {
         let Ok(modulus) = reduced(alloc, p, modulus) else {
             return Err(BaseFault::NoMemory);
         };
-        make_reduced(alloc, Prime { p }, s, q, modulus)
+        make_reduced(alloc, PrimeField { p }, s, q, modulus)
     }
 
     /// The prime that the field stands on.
@@ -156,7 +156,7 @@ impl BaseField {
 /// Two nonzero codes whose product is zero, None where there are none.
 fn code_pair(
     alloc: Global,
-    prime: &Prime,
+    prime: &PrimeField,
     modulus: &[Code],
 ) -> Result<Option<(Code, Code)>, NoMemory>
     requires monic { IsModulus (prime_ops prime.now.p) modulus.now }
@@ -177,7 +177,7 @@ fn code_pair(
 /// What `make` answers once the modulus is monic of degree `s` and reduced.
 fn make_reduced(
     alloc: Global,
-    prime: Prime,
+    prime: PrimeField,
     s: u32,
     q: usize,
     modulus: Vec<Code>,

@@ -21,6 +21,7 @@ mod tower;
 
 pub use base::BaseField;
 pub use fault::{BaseFault, TowerFault};
+pub use prime::PrimeField;
 pub use residue_field::{Code, TopElem, WIDTH};
 pub use residues::multiply;
 pub use size::CODES;

@@ -1,16 +1,32 @@
-ghost use Rattle.std.specs.Prelude.{◌≡◌, ◌<◌, ◌≤◌, ◌%◌, ◌^◌, true};
+ghost use Rattle.std.specs.Prelude.{◌≡◌, ◌<◌, ◌≤◌, ◌%◌, ◌^◌, MatchOption, true, false};
 ghost use Rattle.field_tower.specs.declared.size.TheConstants.{CODES};
-ghost use Rattle.residue_field.specs.Prime.{is_listed, prime_ops, prime_inv};
+ghost use Rattle.residue_field.specs.Prime.{is_listed as is_listed_prime, prime_ops, prime_inv};
 ghost use Rattle.residue_field.proofs.Listed.{prime_field};
 
+use super::size::is_listed;
 use residue_field::Code;
 use ring_core::Field;
 
-/// The numbers below a listed prime `p`, with sums and products modulo `p`.
+/// The numbers below a listed prime `p`, with sums and products modulo `p`. The primes that are listed are
+/// 2, 3, 5, 7, 11, 13 and 251.
 #[derive(Clone, Copy)]
-pub(crate) struct Prime {
-    pub(crate) p: u32,
-    ghost listed: { is_listed p ≡ true },
+pub struct PrimeField {
+    /// The prime.
+    pub p: u32,
+    ghost listed: { is_listed_prime p ≡ true },
+}
+
+impl PrimeField {
+    /// The field of the numbers modulo `p`; None exactly where `p` is no listed prime.
+    pub fn new(p: u32) -> Option<PrimeField>
+        ensures { MatchOption result (is_listed_prime p ≡ false) (λ k. k.p ≡ p) }
+    {
+        if is_listed(p) {
+            Some(PrimeField { p })
+        } else {
+            None
+        }
+    }
 }
 
 /// `a^k` modulo `p`.
@@ -26,7 +42,7 @@ fn power(p: u32, a: Code, k: u32) -> Code
     result as Code
 }
 
-impl Field for Prime {
+impl Field for PrimeField {
     type Elem = Code;
 
     ghost ops = { λ k. prime_ops k.p };

@@ -7,13 +7,13 @@ ghost use Rattle.field_tower.specs.Places.{IsModulus};
 
 use super::codes::{digits, number};
 use super::places;
-use super::prime::Prime;
+use super::prime::PrimeField;
 use residue_field::Code;
 use ring_core::NoMemory;
 use std::alloc::Global;
 
 /// The sum of the codes `a` and `b`.
-fn code_sum(prime: &Prime, modulus: &[Code], a: usize, b: usize) -> Code
+fn code_sum(prime: &PrimeField, modulus: &[Code], a: usize, b: usize) -> Code
     requires monic { IsModulus (prime_ops prime.now.p) modulus.now }
     requires small { prime.now.p ^ (length modulus.now - 1) ≤ CODES }
     requires left { a < prime.now.p ^ (length modulus.now - 1) }
@@ -30,7 +30,7 @@ fn code_sum(prime: &Prime, modulus: &[Code], a: usize, b: usize) -> Code
 }
 
 /// The negative of the code `a`.
-fn code_negative(prime: &Prime, modulus: &[Code], a: usize) -> Code
+fn code_negative(prime: &PrimeField, modulus: &[Code], a: usize) -> Code
     requires monic { IsModulus (prime_ops prime.now.p) modulus.now }
     requires small { prime.now.p ^ (length modulus.now - 1) ≤ CODES }
     requires code { a < prime.now.p ^ (length modulus.now - 1) }
@@ -42,7 +42,7 @@ fn code_negative(prime: &Prime, modulus: &[Code], a: usize) -> Code
 }
 
 /// The product of the codes `a` and `b`.
-fn code_product(prime: &Prime, modulus: &[Code], a: usize, b: usize) -> Code
+fn code_product(prime: &PrimeField, modulus: &[Code], a: usize, b: usize) -> Code
     requires monic { IsModulus (prime_ops prime.now.p) modulus.now }
     requires small { prime.now.p ^ (length modulus.now - 1) ≤ CODES }
     requires left { a < prime.now.p ^ (length modulus.now - 1) }
@@ -61,7 +61,7 @@ fn code_product(prime: &Prime, modulus: &[Code], a: usize, b: usize) -> Code
 /// The sums of all pairs of codes.
 pub(crate) fn sum_table(
     alloc: Global,
-    prime: &Prime,
+    prime: &PrimeField,
     modulus: &[Code],
     q: usize,
 ) -> Result<Vec<Code>, NoMemory>
@@ -80,7 +80,7 @@ pub(crate) fn sum_table(
 /// The products of all pairs of codes.
 pub(crate) fn product_table(
     alloc: Global,
-    prime: &Prime,
+    prime: &PrimeField,
     modulus: &[Code],
     q: usize,
 ) -> Result<Vec<Code>, NoMemory>
@@ -99,7 +99,7 @@ pub(crate) fn product_table(
 /// The negatives of all codes.
 pub(crate) fn negative_row(
     alloc: Global,
-    prime: &Prime,
+    prime: &PrimeField,
     modulus: &[Code],
     q: usize,
 ) -> Result<Vec<Code>, NoMemory>

@@ -1,10 +1,8 @@
 use Rattle.std.proofs.Common.{◌≡◌, ◌≢◌, ◌+◌, ◌-◌, ◌<◌, ◌≤◌, suc, length, length-set, ◌∙◌, arith}
-use Rattle.linear_algebra.specs.Linear.{row_at, entry}
-use Rattle.linear_algebra.proofs.RowLists.{row_len, rows_at}
+use Rattle.linear_algebra.specs.Linear.{entry}
 use Rattle.residue_field.specs.declared.TheConstants.{WIDTH}
 use Rattle.field_tower.proofs.Writes.{written, unwritten}
 use Rattle.field_tower.proofs.Stored.{stored_from}
-use Rattle.field_tower.proofs.Kernels.{place_read}
 use Rattle.field_tower.proofs.accept.residue_of_row.Goals as goal
 
 pub loop-j-preserved : goal.loop-j-preserved
@@ -15,12 +13,11 @@ loop-j-preserved g c =
     let before = c.loop-j.invariant in
     let width = before.width in
     let room : c.args.n ≤ WIDTH = c.requires.room in
-    let long : length (row_at rows c.args.i) ≡ c.args.n = row_len r c.args.n _ (rows_at r c.args.n rows c.requires.rows c.args.i c.requires.row) in
     record {
       width = length-set c.loop-j.list j _ ∙ width;
       done =
           λ k (l : k < j + 1).
-          written r c.loop-j.list j _ (entry r rows c.args.i) k (omega arith) (place_read r (row_at rows c.args.i) j _ (omega arith) c.at.ensures) (λ (d : k ≢ j). before.done k (omega arith));
+          written r c.loop-j.list j _ (entry r rows c.args.i) k (omega arith) (c.at.ensures.value r.zero) (λ (d : k ≢ j). before.done k (omega arith));
       rest = λ k (l : j + 1 ≤ k). let d : k ≢ j = omega arith in unwritten r c.loop-j.list j _ k d (before.rest k (omega arith));
     }
 
