@@ -10,4 +10,5 @@ pub mod Monomial
 pub mod Degrees
 pub mod Central
 pub mod Written
+pub mod Terms
 pub mod RowSteps

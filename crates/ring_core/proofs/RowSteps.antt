@@ -9,19 +9,14 @@ use Rattle.ring_core.specs.Twisted.{product_at}
 use Rattle.ring_core.specs.Written.{IsWritten}
 use Rattle.ring_core.proofs.Carrier.{elements, add_zero, zero_mul, add_times_zero}
 use Rattle.ring_core.proofs.Coefficients.{coeff_past, elem_read}
+use Rattle.ring_core.proofs.Terms.{terms_added, no_terms, zero_times, times_zero}
 use Rattle.ring_core.proofs.Twist.{IsTwist, sum_in}
 
 module _ {E : Type 0} (r : RingOps E) (h : IsRing r) where
   -- what a row adds, past its end too
   pub row_added : (i : ℕ) (c : E) (row before out : List E) → IsElem r c → are_elems r before ≡ true → IsWritten r.zero i (length row) (λ k. r.add (coeff r before (i + k)) (r.mul c (coeff r row k))) before out → (k : ℕ) → coeff r out (i + k) ≡ r.add (coeff r before (i + k)) (r.mul c (coeff r row k))
-  row_added i c row before out p e w k =
-      let old = coeff r before (i + k) in
-      ⊎_elim
-      (λ (low : k < length row). w.inside k low)
-      (λ (high : length row ≤ k).
-      w.outside (i + k) (inr (omega arith))
-      ∙ sym (add_times_zero r h old c (coeff r row k) (elem_read r before h.closed.zero_in e (i + k)) p (coeff_past r row k high)))
-      (cases_lt k (length row))
+  row_added i c row before out p e w =
+      terms_added r h i (length row) (λ k. r.mul c (coeff r row k)) before out e w (λ k past. times_zero r h c (coeff r row k) p (coeff_past r row k past))
 
   -- what a row adds, place by place
   pub row_written : (i : ℕ) (c : E) (row before out : List E) → IsElem r c → are_elems r before ≡ true → ((k : ℕ) → k < i → coeff r out k ≡ coeff r before k)
@@ -43,11 +38,8 @@ module _ {E : Type 0} (r : RingOps E) (h : IsRing r) where
 
   -- what a row adds where the factor is zero
   pub nothing_added : (i : ℕ) (c : E) (row before : List E) → c ≡ r.zero → are_elems r row ≡ true → are_elems r before ≡ true → (k : ℕ) → coeff r before (i + k) ≡ r.add (coeff r before (i + k)) (r.mul c (coeff r row k))
-  nothing_added i c row before none p e k =
-      let z = h.closed.zero_in in
-      let old = coeff r before (i + k) in
-      sym (ap (r.add old) (ap (λ x. r.mul x (coeff r row k)) none ∙ ap (λ x. x.0) (zero_mul (elements h) (coeff r row k, elem_read r row z p k)))
-      ∙ ap (λ x. x.0) (add_zero (elements h) (old, elem_read r before z e (i + k))))
+  nothing_added i c row before none p e =
+      no_terms r h i (λ k. r.mul c (coeff r row k)) before e (λ k. zero_times r h c (coeff r row k) none (elem_read r row h.closed.zero_in p k))
 
   sum_rest : (n m : ℕ) (g : ℕ → E) → ((i : ℕ) → IsElem r (g i)) → ((i : ℕ) → m ≤ i → g i ≡ r.zero) → sum_below r (min m n) g ≡ sum_below r n g
   sum_rest zero m g p e = let none : min m 0 ≡ 0 = omega arith in ap (λ k. sum_below r k g) none
