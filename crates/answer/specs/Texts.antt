@@ -1,0 +1,56 @@
+-- The text of an answer: its lines, each with a line feed.
+use Rattle.std.specs.Prelude.{ℕ, Bool, true, false, Option, Some, None, List, [], ◌++◌, codes, decimal}
+use Rattle.residue_field.specs.Top.{Top}
+use Rattle.answer.specs.declared.value.Answer.{Answer}
+use Rattle.answer.specs.declared.value.Answer.TheVariants as answer
+use Rattle.answer.specs.declared.field.FieldState.{FieldState}
+use Rattle.answer.specs.declared.field.FieldState.TheVariants as field
+use Rattle.answer.specs.declared.field.Printing.{Printing}
+use Rattle.answer.specs.declared.field.Printing.TheVariants as printing
+use Rattle.answer.specs.declared.value.Value.{Value}
+use Rattle.answer.specs.declared.value.Value.TheVariants as value
+use Rattle.answer.specs.Elements.{element_text, polynomial_text, twisted_text, module_text}
+
+-- The field of a printing.
+abbrev pub field_of : Printing → FieldState
+field_of printing.Nothing = field.Nothing
+field_of (printing.Base k) = field.Base k.now
+field_of (printing.Top t) = field.Top t.now
+
+-- The top field in which elements are read, None before there is one.
+abbrev pub top_of : FieldState → Option Top
+top_of field.Nothing = None
+top_of (field.Base k) = None
+top_of (field.Top t) = Some t
+
+abbrev pub line : List ℕ → List ℕ → List ℕ
+line label text = label ++ text ++ codes "\n"
+
+abbrev pub truth_text : Bool → List ℕ
+truth_text true = codes "yes"
+truth_text false = codes "no"
+
+abbrev pub value_text : Top → Value → List ℕ
+value_text t (value.Module phi) = module_text t phi
+value_text t (value.Ore u) = twisted_text t u
+
+-- A text with elements of the top field; where there is no such field it is empty.
+abbrev pub over : Option Top → (Top → List ℕ) → List ℕ
+over None text = []
+over (Some t) text = text t
+
+-- The lines of an answer, whose elements are those of the top field.
+unfoldable pub text_over : Option Top → Answer → List ℕ
+text_over top (answer.Q q) = line (codes "q = ") (decimal q)
+text_over top (answer.N n) = line (codes "n = ") (decimal n)
+text_over top (answer.Named name v) = over top (λ t. line (name.bytes ++ codes " = ") (value_text t v))
+text_over top (answer.Shown v) = over top (λ t. line [] (value_text t v))
+text_over top (answer.Number n) = line [] (decimal n)
+text_over top (answer.Truth b) = line [] (truth_text b)
+text_over top (answer.BasePoly a) = over top (λ t. line [] (polynomial_text t.base a))
+text_over top (answer.Element c) = over top (λ t. line [] (element_text t c))
+text_over top (answer.Twisted u) = over top (λ t. line [] (twisted_text t u))
+
+-- The text of an answer in a field.
+abbrev pub text_of : FieldState → Answer → List ℕ
+text_of f a = text_over (top_of f) a

@@ -1,0 +1,35 @@
+use drinfeld_mod::Module;
+use field_tower::{Code, TopElem};
+use fq_poly::Poly;
+use ore_poly::Ore;
+use script_lang::Name;
+
+/// What a name stands for: a Drinfeld module, or a twisted polynomial.
+#[derive(Drop)]
+pub enum Value {
+    Module(Module<TopElem>),
+    Ore(Ore<TopElem>),
+}
+
+/// The answer of a statement.
+#[derive(Drop)]
+pub enum Answer {
+    /// The number of elements of a new base.
+    Q(u32),
+    /// The degree of a new top field.
+    N(u32),
+    /// The new name, and what it stands for.
+    Named(Name, Value),
+    /// What a name stands for.
+    Shown(Value),
+    /// A number.
+    Number(u32),
+    /// Yes or no.
+    Truth(bool),
+    /// A polynomial in `T` over the base, lowest coefficient first.
+    BasePoly(Poly<Code>),
+    /// An element of the top field.
+    Element(TopElem),
+    /// A twisted polynomial.
+    Twisted(Ore<TopElem>),
+}
