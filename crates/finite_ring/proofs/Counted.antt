@@ -3,9 +3,9 @@
 use Rattle.std.proofs.Common.{◌≡◌, ◌≢◌, ℕ, zero, suc, ◌+◌, ◌-◌, ◌*◌, ◌<◌, ◌≤◌, ◌⊎◌, inl, inr, Bool, true, false, refl, sym, ◌∙◌, ap, subst, arith}
 use mathlib.Core.Bool.{Bool-set}
 use Rattle.std.proofs.lemmas.Bool.{cases_eq}
-use Rattle.ring_core.specs.Ring.{RingOps, IsElem, IsRing}
+use Rattle.ring_core.specs.Ring.{RingOps, IsElem, IsRing, IsNumbered}
 use Rattle.ring_core.proofs.Carrier.{RingOn, elements, same_element, mul_neg, minus_same}
-use Rattle.finite_ring.specs.Finite.{HasNoPair, IsNumbered}
+use Rattle.finite_ring.specs.Finite.{HasNoPair}
 use Rattle.finite_ring.proofs.Pigeon.{pigeon}
 use Rattle.finite_ring.proofs.Powers.{power, power-add}
 

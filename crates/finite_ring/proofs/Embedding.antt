@@ -6,7 +6,8 @@ use Rattle.ring_core.specs.Ring.{RingOps, IsElem, IsRing, IsCommutative}
 use Rattle.ring_core.specs.Powers.{power_of}
 use Rattle.ring_core.proofs.Carrier.{Element, elements, same_element}
 use Rattle.ring_core.proofs.PowerLaws.{power_in}
-use Rattle.finite_ring.specs.Finite.{HasNoPair, root_product, IsEmbedding, IsPowerFrob, IsPowerLinear}
+use Rattle.finite_ring.specs.Finite.{HasNoPair, root_product}
+use Rattle.finite_ring.proofs.PowerMaps.{IsEmbedding, IsPowerFrob, IsPowerLinear}
 use Rattle.finite_ring.proofs.Powers.{power, power_value}
 use Rattle.finite_ring.proofs.Counted.{IsCounted, NoPair, no_pair_on}
 use Rattle.finite_ring.proofs.FieldOf.{commute_on}

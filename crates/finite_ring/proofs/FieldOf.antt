@@ -1,13 +1,13 @@
 -- A finite commutative ring with two elements at least, in which no two nonzero elements multiply to
 -- zero, is a field, and its inverses are powers.
 use Rattle.std.proofs.Common.{◌≡◌, ◌≢◌, ℕ, zero, suc, ◌-◌, ◌<◌, ◌≤◌, ◌⊎◌, inl, inr, Bool, true, false, cond, Option, Some, None, MatchOption, sym, ◌∙◌, ap, refl, true≢false, arith}
-use Rattle.ring_core.specs.Ring.{RingOps, IsElem, IsRing, IsCommutative}
+use Rattle.ring_core.specs.Ring.{RingOps, IsElem, IsRing, IsCommutative, IsNumbered}
 use Rattle.ring_core.specs.Field.{IsField}
 use Rattle.ring_core.specs.Powers.{power_of}
 use Rattle.ring_core.proofs.Carrier.{RingOn, Element, elements, same_element, minus_same}
 use Rattle.ring_core.proofs.PowerLaws.{power_in}
 use Rattle.ring_core.proofs.Degrees.{no_zero_divisors}
-use Rattle.finite_ring.specs.Finite.{HasNoPair, inverse_by_power, root_product, IsNumbered}
+use Rattle.finite_ring.specs.Finite.{HasNoPair, inverse_by_power, root_product}
 use Rattle.finite_ring.proofs.Powers.{power_value}
 use Rattle.finite_ring.proofs.Counted.{IsCounted, NoPair, counted_of, no_pair_on}
 use Rattle.finite_ring.proofs.Fermat.{power_count, count_large}

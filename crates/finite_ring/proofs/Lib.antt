@@ -1,6 +1,7 @@
 pub mod Pigeon
 pub mod Powers
 pub mod Counted
+pub mod PowerMaps
 pub mod Fermat
 pub mod Accept
 pub mod Roots

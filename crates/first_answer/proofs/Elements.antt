@@ -31,7 +31,7 @@ power_large p m positive =
 pub reduced_elem : (k : Base) (x : ℕ) → IsElem (ops_of k) (x % k.p)
 unfolding base_ops
 reduced_elem k x =
-    let large : 1 < k.p = listed_large k.p k.is_base.0 in
+    let large : 1 < k.p = listed_large k.p k.is_base.listed in
     let power : k.p ≤ k.p ^ suc (k.s - 1) = power_large k.p (k.s - 1) (omega arith) in
     let below : x % k.p < k.p ^ suc (k.s - 1) = omega arith in
     lt-ltb (x % k.p) (k.p ^ suc (k.s - 1)) below

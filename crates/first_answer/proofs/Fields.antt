@@ -23,7 +23,7 @@ first_power : (p : ℕ) → p ^ 1 ≡ p
 first_power p = pow-suc p 0 ∙ ap (λ x. x * p) (pow-zero p) ∙ one-mul p
 
 prime_listed : (p : ℕ) (k : Base) → IsPrimeField p k → is_listed p ≡ true
-prime_listed p k f = ap is_listed (sym f.prime) ∙ k.is_base.0
+prime_listed p k f = ap is_listed (sym f.prime) ∙ k.is_base.listed
 
 -- the modulus of the prime field, reduced, is itself
 reduced_letter : (p : ℕ) → 1 < p → reduced p (0 ∷ 1 ∷ []) ≡ 0 ∷ 1 ∷ []
@@ -35,7 +35,7 @@ prime_no_pair p k f =
     let Q : ℕ → Type 0 = λ s. HasNoPair (base_ops p (s - 1) k.modulus) in
     let R : List ℕ → Type 0 = λ m. HasNoPair (base_ops p 0 m) in
     subst R (f.modulus ∙ sym (reduced_letter p (listed_large p (prime_listed p k f))))
-    (subst Q f.degree (subst P f.prime k.is_base.5))
+    (subst Q f.degree (subst P f.prime k.is_base.no_pair))
 
 -- The making of the prime field is refused only where there is none.
 pub prime_refused : (p : ℕ) (why : BaseFault) → (why ≡ base_fault.NoMemory → ⊥) → IsBaseFault p 1 (0 ∷ 1 ∷ []) why → (k : Base) → IsPrimeField p k → ⊥

@@ -9,7 +9,8 @@ use Rattle.ring_core.proofs.Carrier.{elements}
 use Rattle.finite_ring.specs.Finite.{root_product}
 use Rattle.finite_ring.proofs.Frobenius.{IsFiniteField}
 use Rattle.finite_ring.proofs.Embedding.{fixed_product}
-use Rattle.residue_field.specs.Residue.{constant_at, Places, residue_ops, residue_unit, IsMonic, IsPlaces}
+use Rattle.residue_field.specs.Residue.{constant_at, Places, residue_ops}
+use Rattle.residue_field.specs.steps.Stored.{residue_unit, IsMonic, IsPlaces}
 use Rattle.residue_field.proofs.ResidueRing.{residue_ring, residue_commutes}
 use Rattle.residue_field.proofs.Embedded.{residue_embedding, residue_linear, embed_on, embed-in}
 use Rattle.residue_field.proofs.Coordinates.{power_map, difference_map, linear_places}

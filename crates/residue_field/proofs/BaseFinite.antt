@@ -6,7 +6,7 @@ use native.Mathlib.Nat.{one-le-pow}
 use Rattle.finite_ring.proofs.Counted.{IsCounted}
 use Rattle.finite_ring.specs.Finite.{HasNoPair}
 use Rattle.finite_ring.proofs.Frobenius.{IsFiniteField}
-use Rattle.residue_field.specs.Residue.{IsPlaces}
+use Rattle.residue_field.specs.steps.Stored.{IsPlaces}
 use Rattle.residue_field.specs.Prime.{prime_ops}
 use Rattle.residue_field.specs.Digits.{code_places}
 use Rattle.residue_field.specs.Base.{Base, base_ops, ops_of, size_of}
@@ -45,9 +45,9 @@ code_counted p n modulus positive size is ring =
 -- A base field of the size of its codes, which number themselves.
 pub base_finite : (k : Base) (ring : IsRing (ops_of k)) → IsFiniteField (elements ring) (size_of k)
 base_finite k ring =
-    let large : 1 < k.p = listed_large k.p k.is_base.0 in
+    let large : 1 < k.p = listed_large k.p k.is_base.listed in
     let by_code = code_counted k.p (k.s - 1) k.modulus (omega arith) (size_of k) (ap (λ m. k.p ^ m) (sym (degree_of k))) ring in
-    record (shape_finite k.p (k.s - 1) k.modulus (shape_of k) k.s (sym (degree_of k)) k.is_base.5 ring) { counted = by_code }
+    record (shape_finite k.p (k.s - 1) k.modulus (shape_of k) k.s (sym (degree_of k)) k.is_base.no_pair ring) { counted = by_code }
 
 pub base_nth : (k : Base) (ring : IsRing (ops_of k)) (i : ℕ) → i < size_of k → ((base_finite k ring).counted.nth i).0 ≡ i
 unfolding base_finite code_counted

@@ -1,14 +1,14 @@
 -- Base fields are fields. The laws of the ring hold for every listed prime and monic modulus; that no two
 -- nonzero codes multiply to zero gives the field.
 use Rattle.std.proofs.Common.{◌≡◌, ◌≢◌, ℕ, suc, ◌+◌, ◌-◌, ◌^◌, ◌<◌, List, length, slice_index, true, sym, ap, subst, ◌∙◌, arith}
-use Rattle.ring_core.specs.Ring.{IsElem, IsRing, IsCommutative}
+use Rattle.ring_core.specs.Ring.{IsElem, IsRing, IsCommutative, IsNumbered}
 use Rattle.ring_core.specs.Field.{IsField}
 use Rattle.ring_core.specs.Coeffs.{coeff, are_elems}
 use Rattle.ring_core.proofs.Carrier.{elements}
 use Rattle.ring_core.proofs.Coefficients.{elem_read, coeff_past}
 use Rattle.finite_ring.specs.Finite.{HasNoPair, inverse_by_power}
-use Rattle.finite_ring.proofs.Counted.{IsCounted}
-use Rattle.residue_field.specs.Residue.{IsMonic}
+use Rattle.finite_ring.proofs.Counted.{IsCounted, numbered}
+use Rattle.residue_field.specs.steps.Stored.{IsMonic}
 use Rattle.residue_field.specs.Prime.{is_listed, prime_ops}
 use Rattle.residue_field.specs.Digits.{code_places}
 use Rattle.residue_field.specs.Base.{Base, base_ops, ops_of, size_of, inverse_of, letter_code}
@@ -62,14 +62,14 @@ module _ (p n : ℕ) (modulus : List ℕ) (shape : IsBaseShape p n modulus) wher
       p (prime_counted p large) (λ e. absurd (omega arith))
 
 pub degree_of : (k : Base) → suc (k.s - 1) ≡ k.s
-degree_of k = let positive : 0 < k.s = k.is_base.1 in omega arith
+degree_of k = let positive : 0 < k.s = k.is_base.positive in omega arith
 
 pub shape_of : (k : Base) → IsBaseShape k.p (k.s - 1) k.modulus
 shape_of k = record {
-  listed = k.is_base.0;
-  elems = k.is_base.2;
-  count = k.is_base.3 ∙ ap (λ m. m + 1) (sym (degree_of k));
-  top = ap (slice_index k.modulus) (degree_of k) ∙ k.is_base.4;
+  listed = k.is_base.listed;
+  elems = k.is_base.elems;
+  count = k.is_base.count ∙ ap (λ m. m + 1) (sym (degree_of k));
+  top = ap (slice_index k.modulus) (degree_of k) ∙ k.is_base.top;
 }
 
 pub base_ring : (k : Base) → IsRing (ops_of k)
@@ -85,14 +85,17 @@ pub base_counted : (k : Base) (ring : IsRing (ops_of k)) → IsCounted (elements
 base_counted k ring =
     subst (λ m. IsCounted (elements ring) (k.p ^ m)) (degree_of k) (shape_counted k.p (k.s - 1) k.modulus (shape_of k) ring)
 
+pub base_numbered : (k : Base) → IsNumbered (ops_of k) (size_of k)
+base_numbered k = numbered (ops_of k) (base_ring k) (size_of k) (base_counted k (base_ring k))
+
 pub base_field : (k : Base) → IsField (ops_of k) (inverse_of k)
 base_field k =
     subst (λ m. IsField (ops_of k) (inverse_by_power (ops_of k) (k.p ^ m))) (degree_of k)
-    (shape_field k.p (k.s - 1) k.modulus (shape_of k) k.is_base.5)
+    (shape_field k.p (k.s - 1) k.modulus (shape_of k) k.is_base.no_pair)
 
 pub letter_code_in : (k : Base) → IsElem (ops_of k) (letter_code k)
 unfolding base_ops letter_code
 letter_code_in k =
-    let prime : 1 < k.p = listed_large k.p k.is_base.0 in
+    let prime : 1 < k.p = listed_large k.p k.is_base.listed in
     letter-in (prime_ops k.p) (prime_ring k.p prime) (prime_commutes k.p) (k.s - 1) _ (base_monic k.p (k.s - 1) k.modulus (shape_of k))
     (code_places k.p (k.s - 1)) (code_stores k.p (k.s - 1) (omega (arith, prime)))

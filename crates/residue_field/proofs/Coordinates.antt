@@ -8,8 +8,9 @@ use Rattle.ring_core.specs.Powers.{power_of}
 use Rattle.ring_core.proofs.Carrier.{Element, elements, add_exchange, neg_sum, mul_neg, mul_zero, add_zero}
 use Rattle.ring_core.proofs.Twist.{image_of_zero}
 use Rattle.ring_core.proofs.PowerLaws.{power_in}
-use Rattle.finite_ring.specs.Finite.{IsPowerLinear}
-use Rattle.residue_field.specs.Residue.{Places, residue_ops, residue_unit, IsMonic, IsPlaces, IsLinear}
+use Rattle.finite_ring.proofs.PowerMaps.{IsPowerLinear}
+use Rattle.residue_field.specs.Residue.{Places, residue_ops}
+use Rattle.residue_field.specs.steps.Stored.{residue_unit, IsMonic, IsPlaces, IsLinear}
 use Rattle.residue_field.proofs.ResidueRing.{residue_ring}
 use Rattle.residue_field.proofs.Embedded.{embed_on, embed-in, place-add, place-scale}
 

@@ -7,7 +7,8 @@ use Rattle.ring_core.proofs.Carrier.{Element, elements, same_element}
 use Rattle.finite_ring.specs.Finite.{HasNoPair, inverse_by_power}
 use Rattle.finite_ring.proofs.Counted.{IsCounted}
 use Rattle.finite_ring.proofs.FieldOf.{finite_field}
-use Rattle.residue_field.specs.Residue.{Places, residue_ops, IsMonic, IsPlaces}
+use Rattle.residue_field.specs.Residue.{Places, residue_ops}
+use Rattle.residue_field.specs.steps.Stored.{IsMonic, IsPlaces}
 use Rattle.residue_field.specs.Digits.{digit, number}
 use Rattle.residue_field.proofs.DigitLaws.{digit_below, digit-number, number-digits, number-same, number-zeros, number_below}
 use Rattle.residue_field.proofs.ResidueRing.{residue_ring, residue_commutes, residue_one}

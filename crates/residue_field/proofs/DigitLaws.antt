@@ -1,7 +1,7 @@
 -- Digits and the numbers that they make are each other's inverse.
 use native.Mathlib.Nat.{add-mul-mod_self_left, add-mul-div_left, div-eq_of_lt, mod-add-div, pow-zero, pow-succ'}
 use Rattle.std.proofs.Common.{◌≡◌, ℕ, zero, suc, ◌+◌, ◌*◌, ◌/◌, ◌%◌, ◌^◌, ◌<◌, ◌≤◌, sym, refl, ap, ap₂, ◌∙◌, arith, lt-ltb, ltb-true, eq-eqb, eqb-true, mod-lt, mod-eq_of_lt, zero-add, pow-suc, mul-le-mul_left, div-lt_iff_lt-mul}
-use Rattle.residue_field.specs.Residue.{IsPlaces}
+use Rattle.residue_field.specs.steps.Stored.{IsPlaces}
 use Rattle.residue_field.specs.Prime.{prime_ops}
 use Rattle.residue_field.specs.Digits.{digit, number, code_places}
 

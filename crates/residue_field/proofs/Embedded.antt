@@ -4,11 +4,13 @@ use Rattle.std.proofs.Common.{◌≡◌, ℕ, zero, suc, ◌+◌, ◌<◌, true,
 use Rattle.ring_core.specs.Ring.{RingOps, IsElem, IsRing, IsCommutative}
 use Rattle.ring_core.specs.Powers.{power_of}
 use Rattle.ring_core.proofs.Carrier.{RingOn, Element, elements, add_zero, mul_zero}
-use Rattle.finite_ring.specs.Finite.{HasNoPair, IsEmbedding, IsPowerLinear}
+use Rattle.finite_ring.specs.Finite.{HasNoPair}
+use Rattle.finite_ring.proofs.PowerMaps.{IsEmbedding, IsPowerLinear}
 use Rattle.finite_ring.proofs.FieldOf.{commute_on}
 use Rattle.finite_ring.proofs.Frobenius.{IsFiniteField}
 use Rattle.finite_ring.proofs.Embedding.{power_linear, accepted_field}
-use Rattle.residue_field.specs.Residue.{constant_at, residue, product, Places, residue_ops, IsMonic, IsPlaces}
+use Rattle.residue_field.specs.Residue.{constant_at, residue, product, Places, residue_ops}
+use Rattle.residue_field.specs.steps.Stored.{IsMonic, IsPlaces}
 use Rattle.residue_field.proofs.Act.{act, constant, x-eq, x-zero, act-none}
 use Rattle.residue_field.proofs.Reduce.{Residue, constant_residue}
 use Rattle.residue_field.proofs.ResidueRing.{elements_set, modulus_on, has_top, value_on, constant-is, constant-in, value-pack, product-is, product-in, residue_ring, residue_commutes}

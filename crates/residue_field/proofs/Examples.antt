@@ -37,5 +37,12 @@ two = record {
   p = 2;
   s = 1;
   modulus = 0 ∷ 1 ∷ [];
-  is_base = (refl, omega arith, refl, refl, refl, two_no_pair);
+  is_base = record {
+    listed = refl;
+    positive = omega arith;
+    elems = refl;
+    count = refl;
+    top = refl;
+    no_pair = two_no_pair;
+  };
 }

@@ -1,6 +1,6 @@
 -- The laws of the embedding of the constants, of the Frobenius and of the coordinates, for residues
 -- without two nonzero ones that multiply to zero over any finite field of constants, in any storage.
-use Rattle.std.proofs.Common.{◌≡◌, ℕ, suc, ◌*◌, ◌^◌, ◌<◌, ◌≤◌, sym, ◌∙◌, ap, subst, pow-suc, one-mul, arith}
+use Rattle.std.proofs.Common.{◌≡◌, ℕ, suc, ◌*◌, ◌^◌, ◌<◌, ◌≤◌, refl, sym, ◌∙◌, ap, subst, pow-suc, one-mul, arith}
 use native.Mathlib.Nat.{pow-zero}
 use Rattle.ring_core.specs.Ring.{RingOps, IsRing, IsCommutative}
 use Rattle.ring_core.specs.Field.{FrobOps, IsFrobField}
@@ -9,11 +9,14 @@ use Rattle.ring_core.specs.Powers.{power_of}
 use Rattle.ring_core.proofs.Carrier.{elements}
 use Rattle.ring_core.proofs.Twist.{image_of_zero}
 use Rattle.ring_core.proofs.Coefficients.{elem_read}
-use Rattle.finite_ring.specs.Finite.{HasNoPair, IsPowerFrob}
-use Rattle.finite_ring.proofs.Counted.{IsCounted}
+use Rattle.finite_ring.specs.Finite.{HasNoPair}
+use Rattle.finite_ring.proofs.PowerMaps.{IsPowerFrob}
+use Rattle.finite_ring.proofs.Counted.{IsCounted, numbered}
+use Rattle.finite_ring.proofs.Fermat.{count_large}
 use Rattle.finite_ring.proofs.Frobenius.{IsFiniteField}
 use Rattle.finite_ring.proofs.Embedding.{power_frob, field_above}
-use Rattle.residue_field.specs.Residue.{constant_at, Places, residue_ops, IsMonic, IsPlaces, HasFieldPowers}
+use Rattle.residue_field.specs.Residue.{constant_at, Places, residue_ops, HasFieldPowers}
+use Rattle.residue_field.specs.steps.Stored.{IsMonic, IsPlaces}
 use Rattle.residue_field.proofs.ResidueRing.{residue_ring, residue_commutes}
 use Rattle.residue_field.proofs.Counted.{residue_counted}
 use Rattle.residue_field.proofs.Embedded.{residue_embedding, embed_on, place-add, place-scale}
@@ -22,6 +25,7 @@ use Rattle.residue_field.proofs.Embedded.{residue_embedding, embed_on, place-add
 abbrev pub residue_frob : {E T : Type 0} → RingOps E → ℕ → (ℕ → E) → Places E T → ℕ → ℕ → FrobOps T E
 residue_frob r n f c q degree = record {
   degree = degree;
+  base_size = q;
   embed = λ b. c.pack (constant_at r b);
   frob = λ x i. power_of (residue_ops r n f c) x (q ^ i);
   coord = c.place;
@@ -74,10 +78,13 @@ module _ {E T : Type 0} (r : RingOps E) (h : IsRing r) (commutes : IsCommutative
       record {
         degree_pos = positive;
         degree_small = small;
+        base_size_min = count_large (elements h) k.comm q k.counted k.one_apart k.no_pair;
+        base_numbered = numbered r h q k.counted;
         embed_in = e.embed_in;
         embed_add = e.embed_add;
         embed_mul = e.embed_mul;
         embed_inj = e.embed_inj;
+        frob_power = λ x i e. refl;
         frob_in = w.frob_in;
         frob_zero = w.frob_zero;
         frob_plus = w.frob_plus;

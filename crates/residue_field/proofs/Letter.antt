@@ -3,7 +3,8 @@ use Rattle.std.proofs.Common.{◌≡◌, ℕ, zero, suc, true, sym, refl, ap, su
 use mathlib.Core.Path.{fun_ext}
 use Rattle.ring_core.specs.Ring.{RingOps, IsElem, IsRing, IsCommutative}
 use Rattle.ring_core.proofs.Carrier.{Element, elements}
-use Rattle.residue_field.specs.Residue.{constant_at, shifted, residue, Places, residue_letter, IsMonic, IsPlaces}
+use Rattle.residue_field.specs.Residue.{constant_at, shifted, residue, Places, residue_letter}
+use Rattle.residue_field.specs.steps.Stored.{IsMonic, IsPlaces}
 use Rattle.residue_field.proofs.Act.{shift, act, constant}
 use Rattle.residue_field.proofs.ResidueRing.{modulus_on, constant-is, residue-value}
 

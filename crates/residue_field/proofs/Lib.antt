@@ -14,11 +14,9 @@ pub mod Characteristic
 pub mod BaseFinite
 pub mod TopFrob
 pub mod Rows
-pub mod Tables
 mod Examples
 pub mod Quotient
 pub mod Coordinates
-pub mod Period
 pub mod Acceptance
 pub mod Letter
 pub mod Storage

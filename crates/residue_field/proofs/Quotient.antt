@@ -5,7 +5,8 @@ use Rattle.ring_core.specs.Ring.{RingOps, IsElem, IsRing, IsCommutative}
 use Rattle.ring_core.proofs.Carrier.{RingOn, Element, elements, same_element, add_swap, add_exchange}
 use Rattle.ring_core.proofs.Series.{zero_conv}
 use Rattle.finite_ring.proofs.FieldOf.{commute_on}
-use Rattle.residue_field.specs.Residue.{residue, IsMonic, IsRemainder}
+use Rattle.residue_field.specs.Residue.{residue, IsRemainder}
+use Rattle.residue_field.specs.steps.Stored.{IsMonic}
 use Rattle.residue_field.proofs.Act.{shift, shift-add, x-eq, act, constant, first-and-rest, act-one, act-zero, act-longer, act-add_left}
 use Rattle.residue_field.proofs.Reduce.{HasTop, IsBelow, convolve, convolve-step, act-product, act-below}
 use Rattle.residue_field.proofs.ResidueRing.{product-value, residue-value}

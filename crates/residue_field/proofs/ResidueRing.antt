@@ -9,7 +9,8 @@ use Rattle.ring_core.proofs.Carrier.{RingOn, Element, elements, same_element, mu
 use Rattle.ring_core.proofs.Twist.{no_twist, conv_is_sum}
 use Rattle.ring_core.proofs.Values.{HasValues, ring_from_values, comm_from_values}
 use Rattle.finite_ring.proofs.FieldOf.{commute_on}
-use Rattle.residue_field.specs.Residue.{constant_at, times_x, residue, product, Places, residue_ops, IsMonic, IsPlaces}
+use Rattle.residue_field.specs.Residue.{constant_at, times_x, residue, product, Places, residue_ops}
+use Rattle.residue_field.specs.steps.Stored.{IsMonic, IsPlaces}
 use Rattle.residue_field.proofs.Act.{x_act, act, constant}
 use Rattle.residue_field.proofs.Reduce.{convolve, HasTop, Residue, same_below, residues, times-comm, product-acts}
 

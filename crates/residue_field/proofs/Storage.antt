@@ -5,7 +5,8 @@ use Rattle.std.proofs.lemmas.Bool.{cases_lt}
 use mathlib.Core.Path.{fun_ext}
 use Rattle.ring_core.specs.Ring.{RingOps, IsElem, IsRing, IsCommutative}
 use Rattle.finite_ring.specs.Finite.{HasNoPair}
-use Rattle.residue_field.specs.Residue.{residue, product, Places, residue_ops, IsMonic, IsPlaces}
+use Rattle.residue_field.specs.Residue.{residue, product, Places, residue_ops}
+use Rattle.residue_field.specs.steps.Stored.{IsMonic, IsPlaces}
 use Rattle.residue_field.proofs.ResidueRing.{product-in}
 
 -- what is stored as zero

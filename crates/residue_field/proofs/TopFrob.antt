@@ -4,9 +4,10 @@ use Rattle.ring_core.specs.Ring.{IsElem}
 use Rattle.ring_core.specs.Field.{IsFrobField}
 use Rattle.ring_core.specs.Coeffs.{coeff, sum_below}
 use Rattle.residue_field.specs.declared.TopElem.{TopElem}
-use Rattle.residue_field.specs.declared.TheConstants.{WIDTH}
+use Rattle.residue_field.specs.Sizes.{most_places}
 use Rattle.finite_ring.specs.Finite.{HasNoPair}
-use Rattle.residue_field.specs.Residue.{constant_at, residue_unit, HasFieldPowers}
+use Rattle.residue_field.specs.Residue.{constant_at, HasFieldPowers}
+use Rattle.residue_field.specs.steps.Stored.{residue_unit}
 use Rattle.residue_field.specs.Base.{Base, ops_of, size_of}
 use Rattle.residue_field.specs.TopElem.{top_places}
 use Rattle.residue_field.specs.Top.{Top, top_ops, ops_of_top, embed_of, from_coords, frob_of_top}
@@ -22,10 +23,10 @@ unfolding top_ops embed_of from_coords
 top_frob_field t =
     let shape = top_shape_of t in
     let n = t.n - 1 in
-    let fits : t.n ≤ WIDTH = t.is_top.1 in
+    let fits : t.n ≤ most_places = t.is_top.fits in
     residue_frob_field (ops_of t.base) (base_ring t.base) (base_commutes t.base) n _ (top_monic t.base n t.modulus shape)
     (top_places (ops_of t.base) n) (top_stored t.base n t.modulus shape) (size_of t.base) (base_finite t.base (base_ring t.base))
-    t.n (sym (top_degree t)) t.is_top.5 (omega arith)
+    t.n (sym (top_degree t)) t.is_top.no_pair (omega arith)
 
 -- Residues are a field exactly where the powers by the number of constants are as in one.
 pub top_accepted : (base : Base) (n : ℕ) (modulus : List ℕ) → IsTopShape base n modulus

@@ -1,4 +1,4 @@
--- Lists of WIDTH members store residues of a degree up to WIDTH.
+-- Lists of as many members as the greatest degree store residues of a degree up to most_places.
 use mathlib.Core.Path.{fun_ext}
 use Rattle.std.proofs.Common.{◌≡◌, inl, inr, ℕ, zero, suc, ◌<◌, ◌≤◌, true, cond, nat_lt, List, [], ◌∷◌, length, drop, sym, refl, ap, ap₂, ◌∙◌, arith, lt-ltb, le-ltb, eq-eqb, eqb-true}
 use Rattle.std.proofs.lemmas.Bool.{and_parts, and_from, cond_both, cond-true, cond-false, cases_lt}
@@ -7,8 +7,8 @@ use Rattle.ring_core.specs.Coeffs.{coeff, are_elems, first_values}
 use Rattle.ring_core.proofs.Coefficients.{elem_read, elems-first_values, coeff-first_values, values-coeff, same_lists-refl, same_lists-eq}
 use Rattle.ring_core.proofs.FirstValues.{length-first_values}
 use Rattle.residue_field.specs.declared.TopElem.{TopElem}
-use Rattle.residue_field.specs.declared.TheConstants.{WIDTH}
-use Rattle.residue_field.specs.Residue.{IsPlaces}
+use Rattle.residue_field.specs.Sizes.{most_places}
+use Rattle.residue_field.specs.steps.Stored.{IsPlaces}
 use Rattle.residue_field.specs.TopElem.{are_zeros, top_places}
 
 module _ {E : Type 0} (r : RingOps E) (z : IsElem r r.zero) (d : SameDecides r) where
@@ -31,7 +31,7 @@ module _ {E : Type 0} (r : RingOps E) (z : IsElem r r.zero) (d : SameDecides r) 
 pub same_by_coeff : {E : Type 0} (r : RingOps E) (u v : List E) → length u ≡ length v → ((i : ℕ) → coeff r u i ≡ coeff r v i) → u ≡ v
 same_by_coeff r u v len e = sym (values-coeff r u) ∙ ap₂ first_values len (fun_ext e) ∙ values-coeff r v
 
-module _ (r : RingOps ℕ) (h : IsRing r) (n : ℕ) (fits : suc n ≤ WIDTH) where
+module _ (r : RingOps ℕ) (h : IsRing r) (n : ℕ) (fits : suc n ≤ most_places) where
   -- what `pack` stores
   abbrev pub cut : (ℕ → ℕ) → ℕ → ℕ
   cut g i = cond (nat_lt i (suc n)) (g i) r.zero
@@ -45,7 +45,7 @@ module _ (r : RingOps ℕ) (h : IsRing r) (n : ℕ) (fits : suc n ≤ WIDTH) whe
   cut_in : (g : ℕ → ℕ) → ((i : ℕ) → IsElem r (g i)) → (i : ℕ) → IsElem r (cut g i)
   cut_in g e i = cond_both (nat_lt i (suc n)) (g i) r.zero (IsElem r) (λ _. e i) (λ _. h.closed.zero_in)
 
-  width_of : (t : TopElem) → (top_places r n).is_elem t ≡ true → length t.0 ≡ WIDTH
+  width_of : (t : TopElem) → (top_places r n).is_elem t ≡ true → length t.0 ≡ most_places
   width_of t e = eqb-true _ _ (and_parts _ _ e).0
 
   pub elems_of : (t : TopElem) → (top_places r n).is_elem t ≡ true → are_elems r t.0 ≡ true
@@ -62,11 +62,11 @@ module _ (r : RingOps ℕ) (h : IsRing r) (n : ℕ) (fits : suc n ≤ WIDTH) whe
     place_in = λ t i e. elem_read r t.0 h.closed.zero_in (elems_of t e) i;
     place_past = past_of;
     pack_in = λ g e.
-        and_from _ _ (eq-eqb _ _ (length-first_values WIDTH (cut g)))
-        (and_from _ _ (elems-first_values r WIDTH (cut g) (λ i l. cut_in g e i))
-        (zeros-values r h.closed.zero_in h.equal WIDTH (suc n) (cut g) (cut_past g)));
+        and_from _ _ (eq-eqb _ _ (length-first_values most_places (cut g)))
+        (and_from _ _ (elems-first_values r most_places (cut g) (λ i l. cut_in g e i))
+        (zeros-values r h.closed.zero_in h.equal most_places (suc n) (cut g) (cut_past g)));
     place_pack = λ g i e l.
-        coeff-first_values r WIDTH (cut g) (λ j past. cut_past g j (omega arith)) i ∙ cut_low g i l;
+        coeff-first_values r most_places (cut g) (λ j past. cut_past g j (omega arith)) i ∙ cut_low g i l;
     place_inj = λ t u s e same.
         from_list t u (same_by_coeff r t.0 u.0 (width_of t s ∙ sym (width_of u e)) (λ i. elim (cases_lt i (suc n)) [
           | inl l ↦ same i l

@@ -17,10 +17,13 @@ unfoldable pub base_ops : ℕ → ℕ → List ℕ → RingOps ℕ
 base_ops p n modulus = residue_ops (prime_ops p) n (coeff (prime_ops p) modulus) (code_places p n)
 
 -- `p` is a listed prime, the modulus is monic of degree `s`, and no two nonzero codes multiply to zero.
-abbrev pub IsBase : ℕ → ℕ → List ℕ → Type 0
-IsBase p s modulus =
-    (is_listed p ≡ true) × (0 < s) × (are_elems (prime_ops p) modulus ≡ true) × (length modulus ≡ s + 1)
-    × (slice_index modulus s ≡ 1) × HasNoPair (base_ops p (s - 1) modulus)
+pub record IsBase (p s : ℕ) (modulus : List ℕ) : Type 0 where
+  pub listed : is_listed p ≡ true
+  pub positive : 0 < s
+  pub elems : are_elems (prime_ops p) modulus ≡ true
+  pub count : length modulus ≡ s + 1
+  pub top : slice_index modulus s ≡ 1
+  pub no_pair : HasNoPair (base_ops p (s - 1) modulus)
 
 IsBase-prop : (p s : ℕ) (modulus : List ℕ) → IsProp (IsBase p s modulus)
 IsBase-prop p s modulus = Prim.hlevel props

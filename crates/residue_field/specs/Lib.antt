@@ -1,7 +1,8 @@
+pub mod Sizes
 pub mod Residue
 pub mod Prime
 pub mod Digits
-pub mod Tables
 pub mod Base
 pub mod TopElem
 pub mod Top
+pub mod steps

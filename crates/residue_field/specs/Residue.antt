@@ -1,6 +1,6 @@
 -- Residues modulo a monic polynomial, over any ring of constants and in any storage. A polynomial is
 -- the function that gives its coefficients; the modulus `f` has degree `n + 1`.
-use Rattle.std.specs.Prelude.{◌≡◌, ℕ, zero, suc, ◌+◌, ◌-◌, ◌<◌, ◌≤◌, Bool, true, cond, nat_eq}
+use Rattle.std.specs.Prelude.{◌≡◌, ℕ, zero, suc, ◌+◌, ◌-◌, ◌≤◌, Bool}
 use Rattle.ring_core.specs.Ring.{RingOps, IsElem}
 use Rattle.ring_core.specs.Coeffs.{sum_below}
 use Rattle.ring_core.specs.Powers.{power_of}
@@ -52,37 +52,11 @@ residue_ops r n f c = record {
 abbrev pub residue_letter : {E T : Type 0} → RingOps E → ℕ → (ℕ → E) → Places E T → T
 residue_letter r n f c = c.pack (residue r n f 2 (shifted r (constant_at r r.one)))
 
--- The residue of `x^j`, for `j` up to `n`.
-abbrev pub residue_unit : {E T : Type 0} → RingOps E → Places E T → ℕ → T
-residue_unit r c j = c.pack (λ i. cond (nat_eq j i) r.one r.zero)
-
--- `map` is linear over the constants, which are multiplied with as `embed` says.
-pub record IsLinear {E T : Type 0} (r : RingOps E) (t : RingOps T) (embed : E → T) (map : T → T) : Type 0 where
-  pub map_in : (x : T) → IsElem t x → IsElem t (map x)
-  pub map_add : (x y : T) → IsElem t x → IsElem t y → map (t.add x y) ≡ t.add (map x) (map y)
-  pub map_scale : (b : E) (x : T) → IsElem r b → IsElem t x → map (t.mul (embed b) x) ≡ t.mul (embed b) (map x)
-
 -- The power `q` as in a field over the constants that `embed` gives: only zero has the power zero, and only
 -- constants have the power that they are.
 pub record HasFieldPowers {E T : Type 0} (r : RingOps E) (t : RingOps T) (embed : E → T) (q : ℕ) : Type 0 where
   pub kernel : (x : T) → IsElem t x → power_of t x q ≡ t.zero → x ≡ t.zero
   pub fixed : (x : T) → IsElem t x → power_of t x q ≡ x → (b : E) × IsElem r b × (x ≡ embed b)
-
--- `f` is monic of degree `n + 1`.
-pub record IsMonic {E : Type 0} (r : RingOps E) (n : ℕ) (f : ℕ → E) : Type 0 where
-  pub coeff_in : (i : ℕ) → IsElem r (f i)
-  pub top : f (suc n) ≡ r.one
-  pub past : (i : ℕ) → suc n < i → f i ≡ r.zero
-
--- What a storage owes: `place` and `pack` are each other's inverse at the first `n + 1` places.
-pub record IsPlaces {E T : Type 0} (r : RingOps E) (n : ℕ) (c : Places E T) : Type 0 where
-  pub place_in : (t : T) (i : ℕ) → c.is_elem t ≡ true → IsElem r (c.place t i)
-  pub place_past : (t : T) (i : ℕ) → c.is_elem t ≡ true → suc n ≤ i → c.place t i ≡ r.zero
-  pub pack_in : (g : ℕ → E) → ((i : ℕ) → IsElem r (g i)) → c.is_elem (c.pack g) ≡ true
-  pub place_pack : (g : ℕ → E) (i : ℕ) → ((j : ℕ) → IsElem r (g j)) → i < suc n → c.place (c.pack g) i ≡ g i
-  pub place_inj : (t u : T) → c.is_elem t ≡ true → c.is_elem u ≡ true → ((i : ℕ) → i < suc n → c.place t i ≡ c.place u i) → t ≡ u
-  pub same_refl : (t : T) → c.is_elem t ≡ true → c.same t t ≡ true
-  pub same_eq : (t u : T) → c.is_elem t ≡ true → c.is_elem u ≡ true → c.same t u ≡ true → t ≡ u
 
 -- `v` is the remainder of `a` modulo `f`: `a` is a multiple of `f` and `v`, which is zero past `n`.
 pub record IsRemainder {E : Type 0} (r : RingOps E) (n : ℕ) (f a v : ℕ → E) : Type 0 where

@@ -10,7 +10,7 @@ use Rattle.ring_core.specs.Field.{FrobOps}
 use Rattle.ring_core.specs.Coeffs.{coeff, are_elems}
 use Rattle.ring_core.specs.Powers.{power_of}
 use Rattle.residue_field.specs.declared.TopElem.{TopElem}
-use Rattle.residue_field.specs.declared.TheConstants.{WIDTH}
+use Rattle.residue_field.specs.Sizes.{most_places}
 use Rattle.residue_field.specs.Residue.{residue_ops, residue_letter, constant_at}
 use Rattle.finite_ring.specs.Finite.{HasNoPair, inverse_by_power}
 use Rattle.residue_field.specs.Base.{Base, ops_of, size_of, base_code}
@@ -20,11 +20,14 @@ use Rattle.residue_field.specs.TopElem.{top_places}
 unfoldable pub top_ops : Base → ℕ → List ℕ → RingOps TopElem
 top_ops base n modulus = residue_ops (ops_of base) n (coeff (ops_of base) modulus) (top_places (ops_of base) n)
 
--- The modulus is monic of degree `n`, from 1 to `WIDTH`, and no two nonzero residues multiply to zero.
-abbrev pub IsTop : Base → ℕ → List ℕ → Type 0
-IsTop base n modulus =
-    (0 < n) × (n ≤ WIDTH) × (are_elems (ops_of base) modulus ≡ true) × (length modulus ≡ n + 1)
-    × (coeff (ops_of base) modulus n ≡ (ops_of base).one) × HasNoPair (top_ops base (n - 1) modulus)
+-- The modulus is monic of degree `n`, which is in bounds, and no two nonzero residues multiply to zero.
+pub record IsTop (base : Base) (n : ℕ) (modulus : List ℕ) : Type 0 where
+  pub positive : 0 < n
+  pub fits : n ≤ most_places
+  pub elems : are_elems (ops_of base) modulus ≡ true
+  pub count : length modulus ≡ n + 1
+  pub top : coeff (ops_of base) modulus n ≡ (ops_of base).one
+  pub no_pair : HasNoPair (top_ops base (n - 1) modulus)
 
 IsTop-prop : (base : Base) (n : ℕ) (modulus : List ℕ) → IsProp (IsTop base n modulus)
 IsTop-prop base n modulus = Prim.hlevel props
@@ -58,6 +61,7 @@ from_coords t list = (top_places (ops_of t.base) (t.n - 1)).pack (coeff (ops_of 
 abbrev pub frob_of_top : Top → FrobOps TopElem ℕ
 frob_of_top t = record {
   degree = t.n;
+  base_size = size_of t.base;
   embed = embed_of t;
   frob = λ c i. power_of (ops_of_top t) c (size_of t.base ^ i);
   coord = λ c. coeff (ops_of t.base) c.0;

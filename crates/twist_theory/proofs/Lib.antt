@@ -3,4 +3,3 @@ pub mod Cancel
 pub mod Points
 pub mod FewRoots
 pub mod Domain
-pub mod Numbered
