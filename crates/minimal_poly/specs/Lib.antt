@@ -1,0 +1,2 @@
+pub mod MinPoly
+pub mod steps
