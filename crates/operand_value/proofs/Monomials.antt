@@ -1,21 +1,17 @@
 -- Terms of polynomials, added one after another and in place.
-use Rattle.std.proofs.Common.{◌≡◌, ◌≢◌, ℕ, ◌+◌, ◌<◌, true, cond, List, [], ◌∷◌, ◌++◌, length, take, fold, get_or, set, refl, sym, ◌∙◌, ap, ap₂, ⊎_elim, arith, get_or-set_same, get_or-set_other}
+use Rattle.std.proofs.Common.{◌≡◌, ◌≢◌, ℕ, ◌+◌, ◌<◌, true, List, [], ◌∷◌, ◌++◌, length, take, fold, get_or, set, refl, sym, ◌∙◌, ap, ap₂, ⊎_elim, get_or-set_same, get_or-set_other}
 use Rattle.std.proofs.lemmas.Bool.{and_parts, cases_eq}
 use Rattle.std.proofs.lemmas.List.{take_more, length-append}
 use Rattle.ring_core.specs.Ring.{RingOps, IsElem, IsRing}
-use Rattle.ring_core.specs.Coeffs.{coeff, trim, cons_trimmed, are_elems}
+use Rattle.ring_core.specs.Coeffs.{coeff, trim, are_elems}
 use Rattle.ring_core.specs.Monomial.{monomial}
 use Rattle.ring_core.specs.Twisted.{list_add}
 use Rattle.ring_core.proofs.Carrier.{elements, add_zero}
-use Rattle.ring_core.proofs.Coefficients.{elem_read, elems_set, elems-trim, trimmed-trim, coeff-trim, same_coeffs}
+use Rattle.ring_core.proofs.Coefficients.{elem_read, elems_set, elems-trim, trim_push, trimmed-trim, coeff-trim, same_coeffs}
 use Rattle.ring_core.proofs.ListRing.{add_in, coeff-add}
 use Rattle.ring_core.proofs.Monomial.{monomial_in, coeff-monomial_same, coeff-monomial_other}
 use Rattle.script_lang.specs.declared.Term.{Term}
 use Rattle.operand_value.specs.Values.{Letters, term_value, terms_poly}
-
-trim_push : {E : Type 0} (r : RingOps E) (u : List E) (x : E) → r.same x r.zero ≡ true → trim r (u ++ x ∷ []) ≡ trim r u
-trim_push r [] x e = ap (λ b. cond b [] (x ∷ [])) e
-trim_push r (y ∷ ys) x e = ap (cons_trimmed r y) (trim_push r ys x e)
 
 pub one_longer : {E : Type 0} (u w : List E) (x : E) {n : ℕ} → w ≡ u ++ x ∷ [] → length u ≡ n → length w ≡ n + 1
 one_longer u w x pushed e = ap length pushed ∙ length-append u (x ∷ []) ∙ ap (λ m. m + 1) e

@@ -5,22 +5,9 @@ ghost use Rattle.ring_core.specs.Powers.{power_of};
 ghost use Rattle.operand_value.specs.Values.{signed, sum_value, term_value, factor_value, sum_values};
 
 use super::letters::Letters;
-use ring_core::{E, Field, NoMemory};
+use ring_core::{E, Field, NoMemory, field_power};
 use script_lang::{Factor, Sum, Term};
 use std::alloc::Global;
-
-/// The power `k` of `a`.
-fn power<F: Field>(field: &F, a: E<F>, k: u32) -> E<F>
-    requires { IsElem (F.ops field.now) a }
-    ensures value { result ≡ power_of (F.ops field.now) a k }
-    ensures elem { IsElem (F.ops field.now) result }
-{
-    let mut product = field.one();
-    for _ in 0..k {
-        product = field.mul(product, a);
-    }
-    product
-}
 
 /// `a`, negated where there is a minus.
 fn signed<F: Field>(field: &F, minus: bool, a: E<F>) -> E<F>
@@ -37,7 +24,7 @@ fn power_of_a<F: Letters>(field: &F, k: u32) -> E<F>
     ensures elem { IsElem (F.ops field.now) result }
 {
     let a = field.a();
-    power(field, a, k)
+    field_power(field, a, k as u128)
 }
 
 /// The power `k` of the letter `z`.
@@ -46,7 +33,7 @@ fn power_of_z<F: Letters>(field: &F, k: u32) -> E<F>
     ensures elem { IsElem (F.ops field.now) result }
 {
     let z = field.z();
-    power(field, z, k)
+    field_power(field, z, k as u128)
 }
 
 /// The number `n`.
