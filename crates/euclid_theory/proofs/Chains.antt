@@ -1,8 +1,8 @@
 -- The extended algorithm of Euclid in a ring with sizes, by left multiples.
 use Rattle.std.proofs.Common.{◌≡◌, ℕ, ◌+◌, ◌<◌, ◌≤◌, sym, ◌∙◌, ap, ap₂, refl, ⊎_elim, arith}
 use Rattle.std.proofs.lemmas.Bool.{cases_lt}
-use Rattle.ring_core.proofs.Carrier.{RingOn, add_zero, neg_add, add_cancel, zero_mul, mul_zero, neg_mul, minus_same, add_exchange, mul_neg}
-use Rattle.euclid_theory.proofs.Sizes.{minus, minus_plus, from_sum, HasSizes, minus_small, minus_keeps, no_multiple, no_divisors}
+use Rattle.ring_core.proofs.Carrier.{RingOn, add_zero, add_cancel, zero_mul, mul_zero, neg_mul, add_exchange, mul_neg, from_sum}
+use Rattle.euclid_theory.proofs.Sizes.{minus, HasSizes, minus_small, minus_keeps, no_multiple, no_divisors}
 
 -- `(t, w)` is `x (su, wu) + y (sv, wv)`.
 pub record Reached {M : Type 0} (R : RingOn M) (su wu sv wv t w : M) : Type 0 where
@@ -11,10 +11,8 @@ pub record Reached {M : Type 0} (R : RingOn M) (su wu sv wv t w : M) : Type 0 wh
   pub left : t ≡ R.add (R.mul x su) (R.mul y sv)
   pub right : w ≡ R.add (R.mul x wu) (R.mul y wv)
 
--- Two neighbours in the chain of remainders of `a` and `b`, with their cofactors of `a`.
-pub record Chain {M : Type 0} (R : RingOn M) (size : M → ℕ) (a b u v su sv : M) : Type 0 where
-  pub wu : M
-  pub wv : M
+-- Two neighbours in the chain of remainders of `a` and `b`, with their cofactors of `a` and of `b`.
+pub record Chain {M : Type 0} (R : RingOn M) (size : M → ℕ) (a b u v su sv wu wv : M) : Type 0 where
   pub first : u ≡ R.add (R.mul su a) (R.mul wu b)
   pub second : v ≡ R.add (R.mul sv a) (R.mul wv b)
   pub reach : (t w : M) → Reached R su wu sv wv t w
@@ -51,10 +49,8 @@ module _ {M : Type 0} (R : RingOn M) where
   right_cancel x y s e = add_cancel R s x y (R.add_comm s x ∙ e ∙ R.add_comm y s)
 
 module _ {M : Type 0} (R : RingOn M) (size : M → ℕ) (h : HasSizes R size) (a b : M) where
-  pub chain_start : (q rest : M) → a ≡ R.add (R.mul q b) rest → size rest < size b → Chain R size a b b rest R.zero R.one
+  pub chain_start : (q rest : M) → a ≡ R.add (R.mul q b) rest → size rest < size b → Chain R size a b b rest R.zero R.one R.one (R.neg q)
   chain_start q rest e lower = record {
-    wu = R.one;
-    wv = R.neg q;
     first = sym (ap₂ R.add (zero_mul R a) (R.one_mul b) ∙ R.zero_add b);
     second =
         from_sum R rest (R.mul q b) a (R.add_comm _ _ ∙ sym e) ∙ ap₂ R.add (sym (R.one_mul a)) (sym (neg_mul R q b));
@@ -71,7 +67,7 @@ module _ {M : Type 0} (R : RingOn M) (size : M → ℕ) (h : HasSizes R size) (a
     falling = lower;
   }
 
-  module _ (u v su sv : M) (c : Chain R size a b u v su sv) where
+  module _ (u v su sv wu wv : M) (c : Chain R size a b u v su sv wu wv) where
     -- the size of the next cofactor
     next_size : (q next : M) → size u + 1 ≡ size q + size v → 0 < size q → su ≡ R.add next (R.mul q sv) → size next + 1 ≡ size q + size sv
     next_size q next sizes some turn =
@@ -101,23 +97,20 @@ module _ {M : Type 0} (R : RingOn M) (size : M → ℕ) (h : HasSizes R size) (a
         omega arith)
         (cases_lt (size q) 1)
 
-    pub chain_step : (q rest next : M) → 0 < size v → u ≡ R.add (R.mul q v) rest → size rest < size v → su ≡ R.add next (R.mul q sv) → Chain R size a b v rest sv next
-    chain_step q rest next pos e lower turn =
-        let past = minus R c.wu (R.mul q c.wv) in
-        let under : c.wu ≡ R.add past (R.mul q c.wv) = sym (minus_plus R c.wu (R.mul q c.wv)) in
+    pub chain_step : (q rest next past : M) → 0 < size v → u ≡ R.add (R.mul q v) rest → size rest < size v → su ≡ R.add next (R.mul q sv) → wu ≡ R.add past (R.mul q wv)
+        → Chain R size a b v rest sv next wv past
+    chain_step q rest next past pos e lower turn under =
         let sizes : size sv + size u ≡ size b + 1 = c.sizes in
         let falling : size v < size u = c.falling in
         let quotient : size u + 1 ≡ size q + size v = quotient_size q rest pos e lower in
         let cofactor : size next + 1 ≡ size q + size sv = next_size q next quotient (omega arith) turn in
         record {
-          wu = c.wv;
-          wv = past;
           first = c.second;
           second =
               right_cancel R rest (R.add (R.mul next a) (R.mul past b)) (R.mul q v)
               (R.add_comm _ _ ∙ sym e ∙ c.first
               ∙ ap₂ R.add (ap (λ x. R.mul x a) turn) (ap (λ x. R.mul x b) under)
-              ∙ gathered R a b q next sv past c.wv
+              ∙ gathered R a b q next sv past wv
               ∙ ap (λ x. R.add (R.add (R.mul next a) (R.mul past b)) (R.mul q x)) (sym c.second));
           reach = λ t w.
               let r = c.reach t w in
@@ -125,7 +118,7 @@ module _ {M : Type 0} (R : RingOn M) (size : M → ℕ) (h : HasSizes R size) (a
                 x = R.add (R.mul r.x q) r.y;
                 y = r.x;
                 left = r.left ∙ ap (λ x. R.add (R.mul r.x x) (R.mul r.y sv)) turn ∙ turned R r.x r.y q next sv;
-                right = r.right ∙ ap (λ x. R.add (R.mul r.x x) (R.mul r.y c.wv)) under ∙ turned R r.x r.y q past c.wv;
+                right = r.right ∙ ap (λ x. R.add (R.mul r.x x) (R.mul r.y wv)) under ∙ turned R r.x r.y q past wv;
               };
           sizes = omega arith;
           rising = omega arith;
@@ -137,7 +130,7 @@ module _ {M : Type 0} (R : RingOn M) (size : M → ℕ) (h : HasSizes R size) (a
     reached_sum t w =
         let r = c.reach t w in
         ap₂ R.add (ap (λ x. R.mul x a) r.left) (ap (λ x. R.mul x b) r.right)
-        ∙ collected R a b r.x r.y su sv c.wu c.wv
+        ∙ collected R a b r.x r.y su sv wu wv
         ∙ ap₂ R.add (ap (R.mul r.x) (sym c.first)) (ap (R.mul r.y) (sym c.second))
 
     module _ (end : size v ≡ 0) where
@@ -155,7 +148,7 @@ module _ {M : Type 0} (R : RingOn M) (size : M → ℕ) (h : HasSizes R size) (a
       pub divides_right : b ≡ R.mul (c.reach R.zero R.one).x u
       divides_right = sym (ap₂ R.add (zero_mul R a) (R.one_mul b) ∙ R.zero_add b) ∙ combination R.zero R.one
 
-      pub last_relation : R.add (R.mul sv a) (R.mul c.wv b) ≡ R.zero
+      pub last_relation : R.add (R.mul sv a) (R.mul wv b) ≡ R.zero
       last_relation = sym c.second ∙ h.empty v end
 
       -- every relation of `a` and `b` is a left multiple of the last one

@@ -2,8 +2,8 @@
 -- link of Euclid's chain gives them.
 use Rattle.std.proofs.Common.{◌≡◌, ℕ, zero, suc, ◌+◌, ◌-◌, ◌<◌, ◌≤◌, sym, ◌∙◌, ap, ap₂, subst, ⊎_elim, arith}
 use Rattle.std.proofs.lemmas.Bool.{cases_lt}
-use Rattle.ring_core.proofs.Carrier.{RingOn, add_zero, zero_mul, mul_zero, neg_mul, neg_only, minus_same, add_exchange, neg_sum}
-use Rattle.euclid_theory.proofs.Sizes.{minus, minus_plus, from_sum, mul_minus, HasSizes, minus_small, no_multiple, no_divisors, cancel_right, quotients_same, divide}
+use Rattle.ring_core.proofs.Carrier.{RingOn, add_zero, zero_mul, mul_zero, neg_mul, mul_neg, neg_only, minus_same, add_exchange, neg_sum, from_sum}
+use Rattle.euclid_theory.proofs.Sizes.{minus, minus_plus, mul_minus, HasSizes, minus_small, no_multiple, no_divisors, cancel_right, divide}
 use Rattle.euclid_theory.proofs.Chains.{Chain, chain_start, chain_step, combination, divides_left, divides_right, last_relation, relation_multiple, no_relation}
 
 pub record Common {M : Type 0} (R : RingOn M) (size : M → ℕ) (Monic : M → Type 0) (a b d s w : M) : Type 0 where
@@ -21,17 +21,15 @@ pub record Multiple {M : Type 0} (R : RingOn M) (size : M → ℕ) (Monic : M �
   pub nonzero : 0 < size m
   pub least : (n t v : M) → 0 < size n → n ≡ R.mul t a → n ≡ R.mul v b → size m ≤ size n
 
--- What the last link gives: `d` divides both, `d = s a + w b`, and `t a` is the multiple of `b` of which every
--- other left multiple of `a` that is one of `b` is a left multiple.
-pub record Last {M : Type 0} (R : RingOn M) (size : M → ℕ) (a b d s t : M) : Type 0 where
+-- What the last link gives: `d` divides both, `d = s a + w b`, and `t a + v b = 0` is the relation of which
+-- every other is a left multiple.
+pub record Last {M : Type 0} (R : RingOn M) (size : M → ℕ) (a b d s t w v : M) : Type 0 where
   pub x : M
   pub left : a ≡ R.mul x d
   pub y : M
   pub right : b ≡ R.mul y d
-  pub w : M
   pub sum : d ≡ R.add (R.mul s a) (R.mul w b)
-  pub v : M
-  pub relation : R.mul t a ≡ R.mul v b
+  pub relation : R.add (R.mul t a) (R.mul v b) ≡ R.zero
   pub all : (n o : M) → R.mul n a ≡ R.mul o b → (e : M) × (n ≡ R.mul e t)
   pub nonzero : 0 < size d
   pub sizes : size t + size d ≡ size b + 1
@@ -43,44 +41,45 @@ pub record Ended {M : Type 0} (R : RingOn M) (size : M → ℕ) (a b : M) : Type
   pub v : M
   pub su : M
   pub sv : M
-  pub chain : Chain R size a b u v su sv
+  pub wu : M
+  pub wv : M
+  pub chain : Chain R size a b u v su sv wu wv
   pub end : size v ≡ 0
 
 module _ {M : Type 0} (R : RingOn M) (size : M → ℕ) (h : HasSizes R size) where
-  chain_end : (a b : M) (n : ℕ) (u v su sv : M) → size v < n → Chain R size a b u v su sv → Ended R size a b
-  chain_end a b zero u v su sv l c = absurd (omega arith)
-  chain_end a b (suc n) u v su sv l c =
+  chain_end : (a b : M) (n : ℕ) (u v su sv wu wv : M) → size v < n → Chain R size a b u v su sv wu wv → Ended R size a b
+  chain_end a b zero u v su sv wu wv l c = absurd (omega arith)
+  chain_end a b (suc n) u v su sv wu wv l c =
       ⊎_elim
-      (λ (last : size v < 1). record { u = u; v = v; su = su; sv = sv; chain = c; end = omega arith })
+      (λ (last : size v < 1). record { u = u; v = v; su = su; sv = sv; wu = wu; wv = wv; chain = c; end = omega arith })
       (λ (more : 1 ≤ size v).
       let d = divide R size h (size u + 1) u v (omega arith) more in
       let lower : size d.rest < size v = d.lower in
       let next = minus R su (R.mul d.quotient sv) in
-      chain_end a b n v d.rest sv next (omega arith)
-      (chain_step R size h a b u v su sv c d.quotient d.rest next more d.sum d.lower (sym (minus_plus R su (R.mul d.quotient sv)))))
+      let past = minus R wu (R.mul d.quotient wv) in
+      chain_end a b n v d.rest sv next wv past (omega arith)
+      (chain_step R size h a b u v su sv wu wv c d.quotient d.rest next past more d.sum d.lower
+      (sym (minus_plus R su (R.mul d.quotient sv))) (sym (minus_plus R wu (R.mul d.quotient wv)))))
       (cases_lt (size v) 1)
 
   pub chain_of : (a b : M) → 0 < size b → Ended R size a b
   chain_of a b pos =
       let d = divide R size h (size a + 1) a b (omega arith) pos in
-      chain_end a b (size d.rest + 1) b d.rest R.zero R.one (omega arith) (chain_start R size h a b d.quotient d.rest d.sum d.lower)
+      chain_end a b (size d.rest + 1) b d.rest R.zero R.one R.one (R.neg d.quotient) (omega arith) (chain_start R size h a b d.quotient d.rest d.sum d.lower)
 
-  pub last_of : (a b u v su sv : M) → Chain R size a b u v su sv → size v ≡ 0 → Last R size a b u su sv
-  last_of a b u v su sv c end =
+  pub last_of : (a b u v su sv wu wv : M) → Chain R size a b u v su sv wu wv → size v ≡ 0 → Last R size a b u su sv wu wv
+  last_of a b u v su sv wu wv c end =
       let falling : size v < size u = c.falling in
       record {
         x = (c.reach R.one R.zero).x;
-        left = divides_left R size h a b u v su sv c end;
+        left = divides_left R size h a b u v su sv wu wv c end;
         y = (c.reach R.zero R.one).x;
-        right = divides_right R size h a b u v su sv c end;
-        w = c.wu;
+        right = divides_right R size h a b u v su sv wu wv c end;
         sum = c.first;
-        v = R.neg c.wv;
-        relation =
-            sym (neg_mul R c.wv b ∙ sym (neg_only R (R.mul c.wv b) (R.mul sv a) (R.add_comm _ _ ∙ last_relation R size h a b u v su sv c end)));
+        relation = last_relation R size h a b u v su sv wu wv c end;
         all = λ n o e. (
           (c.reach n (R.neg o)).y,
-          relation_multiple R size h a b u v su sv c end n (R.neg o)
+          relation_multiple R size h a b u v su sv wu wv c end n (R.neg o)
               (ap₂ R.add e (neg_mul R o b) ∙ R.add_neg (R.mul o b)),
         );
         nonzero = omega arith;
@@ -89,7 +88,7 @@ module _ {M : Type 0} (R : RingOn M) (size : M → ℕ) (h : HasSizes R size) wh
       }
 
   -- a common divisor divides every combination
-  divides_sum : (a b d x y s w : M) → a ≡ R.mul x d → b ≡ R.mul y d → R.add (R.mul s a) (R.mul w b) ≡ R.mul (R.add (R.mul s x) (R.mul w y)) d
+  pub divides_sum : (a b d x y s w : M) → a ≡ R.mul x d → b ≡ R.mul y d → R.add (R.mul s a) (R.mul w b) ≡ R.mul (R.add (R.mul s x) (R.mul w y)) d
   divides_sum a b d x y s w left right =
       ap₂ R.add (ap (R.mul s) left ∙ sym (R.mul_assoc s x d)) (ap (R.mul w) right ∙ sym (R.mul_assoc w y d)) ∙ sym (R.add_mul _ _ d)
 
@@ -157,14 +156,14 @@ module _ {M : Type 0} (R : RingOn M) (size : M → ℕ) (h : HasSizes R size) wh
         let links : size end.sv + size end.u ≡ size b + 1 = c.sizes in
         let falling : size end.v < size end.u = c.falling in
         let above : b ≡ R.mul p.y d = p.right in
-        let under : d ≡ R.mul (c.reach s w).x end.u = p.sum ∙ combination R size h a b end.u end.v end.su end.sv c end.end s w in
+        let under : d ≡ R.mul (c.reach s w).x end.u = p.sum ∙ combination R size h a b end.u end.v end.su end.sv end.wu end.wv c end.end s w in
         let big : size d ≡ size (R.mul (c.reach s w).x end.u) = ap size under in
         let whole : size b ≡ size (R.mul p.y d) = ap size above in
         let some : 0 < size d = nonzero_factor p.y d (omega arith) in
         let least : size end.u ≤ size (R.mul (c.reach s w).x end.u) = factor_size (c.reach s w).x end.u (omega arith) (omega arith) in
         let relation = difference_relation a b s w t v (sym p.sum ∙ same ∙ q.sum) in
         let few : size (minus R s t) ≤ size b - size d = minus_small R size h s t (size b - size d) (omega arith) (omega arith) in
-        let none : minus R s t ≡ R.zero = no_relation R size h a b end.u end.v end.su end.sv c end.end (minus R s t) (minus R w v) (omega arith) relation in
+        let none : minus R s t ≡ R.zero = no_relation R size h a b end.u end.v end.su end.sv end.wu end.wv c end.end (minus R s t) (minus R w v) (omega arith) relation in
         let other : R.mul (minus R w v) b ≡ R.zero =
         sym (ap (λ x. R.add (R.mul x a) (R.mul (minus R w v) b)) none ∙ ap (λ x. R.add x (R.mul (minus R w v) b)) (zero_mul R a) ∙ R.zero_add _)
         ∙ relation in
@@ -186,8 +185,25 @@ module _ {M : Type 0} (R : RingOn M) (size : M → ℕ) (h : HasSizes R size) wh
         (cases_lt (size (minus R m n)) 1) in
         (same, cancel_right R size h s t a pa (sym p.left ∙ same ∙ q.left), cancel_right R size h w v b pb (sym p.right ∙ same ∙ q.right))
 
+    -- every common multiple is a left multiple of the least
+    pub multiple_divides : (a b m s w n t v : M) → Multiple R size Monic a b m s w → n ≡ R.mul t a → n ≡ R.mul v b → (q : M) × (n ≡ R.mul q m)
+    multiple_divides a b m s w n t v p left right =
+        let d = divide R size h (size n + 1) n m (omega arith) p.nonzero in
+        let q = d.quotient in
+        let lower : size d.rest < size m = d.lower in
+        let taken : (x y c : M) → n ≡ R.mul x c → m ≡ R.mul y c → d.rest ≡ R.mul (minus R x (R.mul q y)) c = λ x y c e f.
+        from_sum R d.rest (R.mul q m) n (R.add_comm _ _ ∙ sym d.sum)
+        ∙ ap₂ (minus R) e (ap (R.mul q) f ∙ sym (R.mul_assoc q y c)) ∙ sym (mul_minus R x (R.mul q y) c) in
+        ⊎_elim
+        (λ (none : size d.rest < 1).
+        (q, d.sum ∙ ap (R.add (R.mul q m)) (h.empty d.rest (omega arith)) ∙ add_zero R (R.mul q m)))
+        (λ (some : 1 ≤ size d.rest).
+        let least : size m ≤ size d.rest = p.least d.rest (minus R t (R.mul q s)) (minus R v (R.mul q w)) some (taken t s a left p.left) (taken v w b right p.right) in
+        absurd (omega arith))
+        (cases_lt (size d.rest) 1)
+
     -- the last link, times a unit `e` that makes it monic
-    module _ (a b u su sv : M) (c : Last R size a b u su sv) (e i : M) (unit : size e ≡ 1) (inverse : R.mul i e ≡ R.one) where
+    module _ (a b u su sv wu wv : M) (c : Last R size a b u su sv wu wv) (e i : M) (unit : size e ≡ 1) (inverse : R.mul i e ≡ R.one) where
       unit_size : (x : M) → size (R.mul e x) ≡ size x
       unit_size x =
           ⊎_elim
@@ -203,28 +219,15 @@ module _ {M : Type 0} (R : RingOn M) (size : M → ℕ) (h : HasSizes R size) wh
       undone x y =
           sym (R.mul_assoc x i (R.mul e y) ∙ ap (R.mul x) (sym (R.mul_assoc i e y) ∙ ap (λ z. R.mul z y) inverse ∙ R.one_mul y))
 
-      scaled_sum : R.mul e u ≡ R.add (R.mul (R.mul e su) a) (R.mul (R.mul e c.w) b)
-      scaled_sum =
-          ap (R.mul e) c.sum ∙ R.mul_add e _ _ ∙ ap₂ R.add (sym (R.mul_assoc e su a)) (sym (R.mul_assoc e c.w b))
-
-      -- what is left of the divisor is a multiple of `b`
-      pub common_from : (q rest : M) → Monic (R.mul e u) → minus R (R.mul e u) (R.mul (R.mul e su) a) ≡ R.add (R.mul q b) rest → size rest < size b
-          → Common R size Monic a b (R.mul e u) (R.mul e su) q
-      common_from q rest monic division lower =
-          let d = R.mul e u in
-          let s = R.mul e su in
-          let known : R.add (R.mul (R.mul e c.w) b) R.zero ≡ R.add (R.mul q b) rest =
-          add_zero R _ ∙ from_sum R (R.mul (R.mul e c.w) b) (R.mul s a) d (R.add_comm _ _ ∙ sym scaled_sum) ∙ division in
-          let none : size R.zero < size b = let z : size R.zero ≡ 0 = h.none in omega arith in
-          let same : R.mul e c.w ≡ q = (quotients_same R size h b (R.mul e c.w) q R.zero rest known none lower).0 in
-          record {
-            sum = scaled_sum ∙ ap (λ x. R.add (R.mul s a) (R.mul x b)) same;
-            x = R.mul c.x i;
-            left = c.left ∙ undone c.x u;
-            y = R.mul c.y i;
-            right = c.right ∙ undone c.y u;
-            monic = λ _. monic;
-          }
+      pub common_from : Monic (R.mul e u) → Common R size Monic a b (R.mul e u) (R.mul e su) (R.mul e wu)
+      common_from monic = record {
+        sum = ap (R.mul e) c.sum ∙ R.mul_add e _ _ ∙ ap₂ R.add (sym (R.mul_assoc e su a)) (sym (R.mul_assoc e wu b));
+        x = R.mul c.x i;
+        left = c.left ∙ undone c.x u;
+        y = R.mul c.y i;
+        right = c.right ∙ undone c.y u;
+        monic = λ _. monic;
+      }
 
       pub cofactor_small : size (R.mul e su) + size (R.mul e u) ≤ size b
       cofactor_small =
@@ -234,20 +237,15 @@ module _ {M : Type 0} (R : RingOn M) (size : M → ℕ) (h : HasSizes R size) wh
           let sizes : size sv + size u ≡ size b + 1 = c.sizes in
           omega arith
 
-      pub multiple_from : (m q rest : M) → m ≡ R.mul e (R.mul sv a) → 0 < size a → Monic m → m ≡ R.add (R.mul q b) rest → size rest < size b
-          → Multiple R size Monic a b m (R.mul e sv) q
-      multiple_from m q rest is pos monic division lower =
-          let s = R.mul e sv in
-          let known : R.add (R.mul (R.mul e c.v) b) R.zero ≡ R.add (R.mul q b) rest =
-          add_zero R _ ∙ R.mul_assoc e c.v b ∙ ap (R.mul e) (sym c.relation) ∙ sym is ∙ division in
-          let none : size R.zero < size b = let z : size R.zero ≡ 0 = h.none in omega arith in
-          let same : R.mul e c.v ≡ q = (quotients_same R size h b (R.mul e c.v) q R.zero rest known none lower).0 in
+      pub multiple_from : (m : M) → m ≡ R.mul e (R.mul sv a) → 0 < size a → Monic m → Multiple R size Monic a b m (R.mul e sv) (R.neg (R.mul e wv))
+      multiple_from m is pos monic =
           let rising : size su < size sv = c.small in
           let product : size (R.mul sv a) + 1 ≡ size sv + size a = h.product sv a (omega arith) pos in
           let whole : size m ≡ size (R.mul sv a) = ap size is ∙ unit_size (R.mul sv a) in
+          let other : R.mul sv a ≡ R.neg (R.mul wv b) = neg_only R (R.mul wv b) (R.mul sv a) (R.add_comm _ _ ∙ c.relation) in
           record {
             left = is ∙ sym (R.mul_assoc e sv a);
-            right = is ∙ ap (R.mul e) c.relation ∙ sym (R.mul_assoc e c.v b) ∙ ap (λ x. R.mul x b) same;
+            right = is ∙ ap (R.mul e) other ∙ mul_neg R e (R.mul wv b) ∙ ap R.neg (sym (R.mul_assoc e wv b)) ∙ sym (neg_mul R (R.mul e wv) b);
             monic = monic;
             nonzero = omega arith;
             least = λ n t o some left right.

@@ -1,8 +1,8 @@
 -- Division on the other side, by right multiples: it has one answer, too.
 use Rattle.std.proofs.Common.{◌≡◌, ℕ, ◌+◌, ◌-◌, ◌<◌, ◌≤◌, sym, ◌∙◌, ap, ⊎_elim, arith}
 use Rattle.std.proofs.lemmas.Bool.{cases_lt}
-use Rattle.ring_core.proofs.Carrier.{RingOn, neg_add, add_cancel, minus_same}
-use Rattle.euclid_theory.proofs.Sizes.{HasSizes, minus, minus_mul, from_sum, minus_small}
+use Rattle.ring_core.proofs.Carrier.{RingOn, neg_add, add_cancel, minus_same, from_sum}
+use Rattle.euclid_theory.proofs.Sizes.{HasSizes, minus, minus_mul, minus_small}
 
 module _ {M : Type 0} (R : RingOn M) (len : M → ℕ) (h : HasSizes R len) where
   left_difference : (b c d s t : M) → R.add (R.mul b c) s ≡ R.add (R.mul b d) t → R.mul b (minus R c d) ≡ minus R t s

@@ -10,11 +10,11 @@ use Rattle.ring_core.specs.Monomial.{monomial}
 use Rattle.ring_core.proofs.Carrier.{RingOn, Element, same_element, elements, neg_mul, add_times_zero}
 use Rattle.ring_core.proofs.Coefficients.{coeff_past, elem_read}
 use Rattle.ring_core.proofs.Twist.{IsTwist, frob_twist, twist_of_zero}
-use Rattle.ring_core.proofs.ListRing.{frob_ring, coeff-add, coeff-mul, mul_in}
+use Rattle.ring_core.proofs.ListRing.{frob_ring, coeff-add, coeff-mul, mul_in, length-neg}
 use Rattle.ring_core.proofs.Monomial.{monomial_in, monomial_product}
-use Rattle.ring_core.proofs.Degrees.{degrees_add, frob_no_divisors}
+use Rattle.ring_core.proofs.Degrees.{not_empty, length_below, degrees_add, frob_no_divisors}
 use Rattle.euclid_theory.proofs.Sizes.{HasSizes}
-use Rattle.euclid_theory.proofs.Lengths.{not_empty, length-add, length-neg, length_below, top_inverse}
+use Rattle.euclid_theory.proofs.Lengths.{sum_length, top_inverse}
 
 -- x - (x j) t = 0 where j t = 1
 cancelled : {M : Type 0} (R : RingOn M) (x j t : M) → R.mul j t ≡ R.one → R.add x (R.mul (R.neg (R.mul x j)) t) ≡ R.zero
@@ -86,7 +86,7 @@ module _ {E B : Type 0} (r : RingOps E) (inv : E → Option E) (base : RingOps B
     empty = λ x e. same_element (twisted_ops r f.frob) x ores.zero (nil_from_length x.0 e);
     none = refl;
     unit = refl;
-    sum = λ x y n p q. length-add r x.0 y.0 n p q;
+    sum = λ x y n p q. sum_length r x.0 y.0 n p q;
     neg = λ x. length-neg r x.0;
     product = λ x y p q.
         degrees_add r k.ring f.frob twist_is (frob_no_divisors r inv base f k l) x.0 y.0 x.1 y.1 (not_empty x.0 p) (not_empty y.0 q);

@@ -2,7 +2,7 @@
 -- top of an element can be taken away by a left multiple of another: twisted polynomials with their lengths.
 use Rattle.std.proofs.Common.{◌≡◌, ℕ, zero, suc, ◌+◌, ◌-◌, ◌<◌, ◌≤◌, sym, ◌∙◌, ap, ⊎_elim, arith}
 use Rattle.std.proofs.lemmas.Bool.{cases_lt}
-use Rattle.ring_core.proofs.Carrier.{RingOn, add_zero, neg_add, add_cancel, zero_mul, neg_mul, mul_neg, minus_same}
+use Rattle.ring_core.proofs.Carrier.{RingOn, add_zero, neg_add, add_cancel, zero_mul, neg_mul, mul_neg, minus_same, from_sum, difference}
 
 abbrev pub minus : {M : Type 0} → RingOn M → M → M → M
 minus R x y = R.add x (R.neg y)
@@ -12,29 +12,15 @@ module _ {M : Type 0} (R : RingOn M) where
   pub minus_plus : (x y : M) → R.add (minus R x y) y ≡ x
   minus_plus x y = R.add_assoc x (R.neg y) y ∙ ap (R.add x) (neg_add R y) ∙ add_zero R x
 
-  -- x = t - s where x + s = t
-  pub from_sum : (x s t : M) → R.add x s ≡ t → x ≡ minus R t s
-  from_sum x s t e =
-      sym (add_zero R x) ∙ ap (R.add x) (sym (R.add_neg s)) ∙ sym (R.add_assoc x s (R.neg s))
-      ∙ ap (λ y. R.add y (R.neg s)) e
-
   -- x - (x - y) = y
   pub minus_back : (x y : M) → minus R x (minus R x y) ≡ y
-  minus_back x y = sym (from_sum y (minus R x y) x (R.add_comm y (minus R x y) ∙ minus_plus x y))
+  minus_back x y = sym (from_sum R y (minus R x y) x (R.add_comm y (minus R x y) ∙ minus_plus x y))
 
   pub mul_minus : (x y b : M) → R.mul (minus R x y) b ≡ minus R (R.mul x b) (R.mul y b)
   mul_minus x y b = R.add_mul x (R.neg y) b ∙ ap (R.add (R.mul x b)) (neg_mul R y b)
 
   pub minus_mul : (b x y : M) → R.mul b (minus R x y) ≡ minus R (R.mul b x) (R.mul b y)
   minus_mul b x y = R.mul_add b x (R.neg y) ∙ ap (R.add (R.mul b x)) (mul_neg R b y)
-
-  -- c b + s = d b + t gives (c - d) b = t - s
-  pub difference : (b c d s t : M) → R.add (R.mul c b) s ≡ R.add (R.mul d b) t → R.mul (minus R c d) b ≡ minus R t s
-  difference b c d s t e =
-      from_sum (R.mul (minus R c d) b) s t
-      (ap (λ y. R.add y s) (mul_minus c d b ∙ R.add_comm _ _)
-      ∙ R.add_assoc _ _ _ ∙ ap (R.add (R.neg (R.mul d b))) e ∙ sym (R.add_assoc _ _ _)
-      ∙ ap (λ y. R.add y t) (neg_add R (R.mul d b)) ∙ R.zero_add t)
 
 pub record HasSizes {M : Type 0} (R : RingOn M) (size : M → ℕ) : Type 0 where
   pub empty : (x : M) → size x ≡ 0 → x ≡ R.zero

@@ -1,5 +1,5 @@
 -- Products of twisted polynomials that aren't zero aren't zero, and factors can be cancelled.
-use Rattle.std.proofs.Common.{◌≡◌, ◌≢◌, ℕ, ◌+◌, ◌<◌, true, List, [], ◌∷◌, Option, length, refl, ◌∙◌, ap, ap₂, arith}
+use Rattle.std.proofs.Common.{◌≡◌, ◌≢◌, ℕ, ◌+◌, true, List, [], ◌∷◌, Option, length, refl, ◌∙◌, ap, ap₂, arith}
 use Rattle.ring_core.specs.Ring.{RingOps, IsRing}
 use Rattle.ring_core.specs.Field.{IsField, FrobOps, IsFrobField}
 use Rattle.ring_core.specs.Coeffs.{is_canonical}
@@ -7,19 +7,15 @@ use Rattle.ring_core.specs.Twisted.{list_mul, twisted_ops}
 use Rattle.ring_core.proofs.Carrier.{RingOn, Element, same_element, elements, minus_same, mul_neg, neg_mul}
 use Rattle.ring_core.proofs.Twist.{IsTwist, frob_twist}
 use Rattle.ring_core.proofs.ListRing.{twisted_ring}
-use Rattle.ring_core.proofs.Degrees.{HasNoDivisors, degrees_add, frob_no_divisors}
-
-positive : {E : Type 0} (u : List E) → u ≢ [] → 0 < length u
-positive [] ne = absurd (ne refl)
-positive (x ∷ xs) ne = omega arith
+use Rattle.ring_core.proofs.Degrees.{HasNoDivisors, has_members, degrees_add, frob_no_divisors}
 
 module _ {E : Type 0} (r : RingOps E) (h : IsRing r) (frob : E → ℕ → E) (t : IsTwist r frob) (ne : r.one ≢ r.zero) (none : HasNoDivisors r frob) where
   pub product_nonzero : (a b : List E) → is_canonical r a ≡ true → is_canonical r b ≡ true → a ≢ [] → b ≢ [] → list_mul r frob a b ≢ []
   product_nonzero a b p q na nb e =
       let degrees : length (list_mul r frob a b) + 1 ≡ length a + length b = degrees_add r h frob t none a b p q na nb in
       let empty : length (list_mul r frob a b) ≡ 0 = ap length e in
-      let left = positive a na in
-      let right = positive b nb in
+      let left = has_members a na in
+      let right = has_members b nb in
       omega (arith, degrees, empty, left, right)
 
   abbrev pub ring : RingOn (Element (twisted_ops r frob))

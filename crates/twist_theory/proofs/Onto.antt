@@ -1,24 +1,18 @@
 -- Each power of the Frobenius is onto: the steps that are left to the next multiple of the degree undo it.
 use native.Mathlib.Nat.{div-add-mod}
-use Rattle.std.proofs.Common.{◌≡◌, ℕ, zero, suc, ◌+◌, ◌-◌, ◌*◌, ◌/◌, ◌%◌, ◌<◌, refl, sym, ◌∙◌, ap, arith, mod-lt}
+use Rattle.std.proofs.Common.{◌≡◌, ℕ, suc, ◌+◌, ◌-◌, ◌*◌, ◌/◌, ◌%◌, ◌<◌, refl, sym, ◌∙◌, ap, arith, mod-lt}
 use Rattle.ring_core.specs.Ring.{RingOps, IsElem}
 use Rattle.ring_core.specs.Field.{FrobOps, IsFrobField}
+use Rattle.ring_core.proofs.Twist.{frob_round}
 
 module _ {E B : Type 0} (r : RingOps E) (base : RingOps B) (f : FrobOps E B) (l : IsFrobField r base f) where
-  -- a multiple of the degree is no step
-  pub frob_round : (c : E) (m : ℕ) → IsElem r c → f.frob c (f.degree * m) ≡ c
-  frob_round c zero p = let none : f.degree * 0 ≡ 0 = omega arith in ap (f.frob c) none ∙ l.frob_zero c p
-  frob_round c (suc m) p =
-      let more : f.degree * suc m ≡ f.degree * m + f.degree = omega arith in
-      ap (f.frob c) more ∙ l.frob_plus c (f.degree * m) f.degree p ∙ ap (λ x. f.frob x f.degree) (frob_round c m p) ∙ l.frob_degree c p
-
   -- what is left of `n` steps, the degree, undoes `i` of them
   pub frob_back : (c : E) (i n : ℕ) → IsElem r c → n ≡ f.degree → i % n < n → f.frob (f.frob c (n - i % n)) i ≡ c
   frob_back c i n p d less =
       let split : n * (i / n) + i % n ≡ i = div-add-mod i n in
       let next : n * suc (i / n) ≡ n * (i / n) + n = omega arith in
       let whole : n - i % n + i ≡ n * suc (i / n) = omega arith in
-      sym (l.frob_plus c (n - i % n) i p) ∙ ap (f.frob c) (whole ∙ ap (λ m. m * suc (i / n)) d) ∙ frob_round c (suc (i / n)) p
+      sym (l.frob_plus c (n - i % n) i p) ∙ ap (f.frob c) (whole ∙ ap (λ m. m * suc (i / n)) d) ∙ frob_round r base f l c (suc (i / n)) p
 
   pub frob_onto : (c : E) (i : ℕ) → IsElem r c → (b : E) × IsElem r b × (f.frob b i ≡ c)
   frob_onto c i p =

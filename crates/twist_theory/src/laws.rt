@@ -4,8 +4,6 @@ ghost use Rattle.ring_core.specs.Ring.{IsElem};
 ghost use Rattle.ring_core.specs.Coeffs.{coeff, is_canonical};
 ghost use Rattle.ring_core.specs.Powers.{value_at};
 ghost use Rattle.ring_core.specs.Twisted.{list_mul};
-ghost use Rattle.linear_algebra.specs.Combines.{combined};
-ghost use Rattle.linear_algebra.specs.Linear.{entry, is_row, are_rows, IsEchelon};
 
 use ring_core::{Field, FrobField};
 
@@ -31,11 +29,4 @@ pub fn few_roots<K: Field>()
     ensures { (k : K) (u : List K.Elem) (c : ℕ → K.Elem) → let r = K.ops k in
         is_canonical r u ≡ true → u ≢ [] → ((j : ℕ) → IsElem r (c j)) → ((i j : ℕ) → i < j → j < length u → c i ≢ c j)
         → ((j : ℕ) → j < length u → value_at r u (c j) ≡ r.zero) → ⊥ }
-{}
-
-/// A row is a combination of echelon rows by at most one list of coefficients.
-pub fn one_combination<K: Field>()
-    ensures { (k : K) (w : ℕ) (basis : List (List K.Elem)) (c d : List K.Elem) → let r = K.ops k in
-        are_rows r w basis ≡ true → IsEchelon r basis → is_row r (length basis) c ≡ true → is_row r (length basis) d ≡ true
-        → ((j : ℕ) → combined r (length basis) (coeff r c) (entry r basis) j ≡ combined r (length basis) (coeff r d) (entry r basis) j) → c ≡ d }
 {}
