@@ -63,15 +63,11 @@ pub fn tokens(alloc: Global, content: &[u8]) -> Result<Option<Vec<Token>>, NoMem
             rest = more;
             continue;
         }
-        let Ok(front) = front_token(alloc, rest) else {
-            return Err(NoMemory);
-        };
+        let front = front_token(alloc, rest)?;
         let Some((token, after)) = front else {
             return Ok(None);
         };
-        let Ok(_) = list.push(token) else {
-            return Err(NoMemory);
-        };
+        list.push(token)?;
         rest = after;
     }
     Ok(Some(list))
@@ -106,9 +102,7 @@ fn front_token(alloc: Global, bytes: &[u8]) -> Result<Option<(Token, &[u8])>, No
     }
     if byte.is_ascii_alphabetic() {
         let end = word_len(bytes);
-        let Ok(token) = word_token(alloc, &bytes[..end]) else {
-            return Err(NoMemory);
-        };
+        let token = word_token(alloc, &bytes[..end])?;
         return Ok(Some((token, &bytes[end..])));
     }
     Ok(None)
@@ -198,8 +192,6 @@ fn word_token(alloc: Global, word: &[u8]) -> Result<Token, NoMemory>
     if word == b"as".as_slice() {
         return Ok(Token::As);
     }
-    let Ok(bytes) = Items::from_slice(alloc, word) else {
-        return Err(NoMemory);
-    };
+    let bytes = Items::from_slice(alloc, word)?;
     Ok(Token::Word(bytes))
 }

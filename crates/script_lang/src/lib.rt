@@ -1,7 +1,6 @@
 //! The script language: lines, tokens, and the grammar of sums, lists and operands with its readers.
 #![tactic(auto)]
 
-mod form;
 mod front;
 pub mod laws;
 mod lexer;
@@ -12,7 +11,6 @@ mod sum;
 #[cfg(test)]
 mod tests;
 
-pub use form::{Form, Script, SizeKind, Statement};
 pub use front::{after_sign, first, number, word};
 pub use lexer::{Letter, NUMBER_TOP, Sign, Token, is_word, tokens};
 pub use line::{content_of, is_blank, next_line};

@@ -30,9 +30,7 @@ pub fn read_leaded_sum<'a>(
     ensures shorter { IfOk result (λ o. IfSome o (λ p. length p.1.now < length tokens.now)) }
 {
     let (lead, rest) = after_minus(tokens);
-    let Ok(read) = read_sum(alloc, kind, DEEPEST, lead, rest) else {
-        return Err(NoMemory);
-    };
+    let read = read_sum(alloc, kind, DEEPEST, lead, rest)?;
     let Some((sum, after)) = read else {
         return Ok(None);
     };
@@ -53,9 +51,7 @@ pub fn read_list<'a>(
     if let Some(rest) = after_sign(opened, Sign::CloseList) {
         return Ok(Some((Items::new(alloc), rest)));
     }
-    let Ok(read) = read_items(alloc, opened) else {
-        return Err(NoMemory);
-    };
+    let read = read_items(alloc, opened)?;
     let Some((list, rest)) = read else {
         return Ok(None);
     };
@@ -73,15 +69,11 @@ fn read_items<'a>(
     let mut list = Items::new(alloc);
     let mut rest = tokens;
     loop {
-        let Ok(read) = read_leaded_sum(alloc, Kind::TopElement, rest) else {
-            return Err(NoMemory);
-        };
+        let read = read_leaded_sum(alloc, Kind::TopElement, rest)?;
         let Some((item, after)) = read else {
             return Ok(None);
         };
-        let Ok(_) = list.push(item) else {
-            return Err(NoMemory);
-        };
+        list.push(item)?;
         if let Some(end) = after_sign(after, Sign::CloseList) {
             return Ok(Some((list, end)));
         }
@@ -103,9 +95,7 @@ pub fn read_name<'a>(
     let Some((text, rest)) = word(tokens) else {
         return Ok(None);
     };
-    let Ok(bytes) = Items::from_slice(alloc, text) else {
-        return Err(NoMemory);
-    };
+    let bytes = Items::from_slice(alloc, text)?;
     Ok(Some((Name { bytes }, rest)))
 }
 
@@ -118,15 +108,11 @@ pub fn read_module<'a>(
     ensures found { IfOk result (λ o. IfSome o (λ p. IsModOperand tokens.now p.1.now p.0)) }
     ensures refused { IfOk result (λ o. IfNone o ((rest : List Token) (m : ModArg) → ¬ IsModOperand tokens.now rest m)) }
 {
-    let Ok(named) = read_name(alloc, tokens) else {
-        return Err(NoMemory);
-    };
+    let named = read_name(alloc, tokens)?;
     if let Some((name, rest)) = named {
         return Ok(Some((ModArg::Name(name), rest)));
     }
-    let Ok(listed) = read_list(alloc, tokens) else {
-        return Err(NoMemory);
-    };
+    let listed = read_list(alloc, tokens)?;
     let Some((list, rest)) = listed else {
         return Ok(None);
     };
@@ -142,18 +128,14 @@ pub fn read_twisted<'a>(
     ensures found { IfOk result (λ o. IfSome o (λ p. Reads (IsOreOperand tokens.now) 1 p.1.now p.0)) }
     ensures refused { IfOk result (λ o. IfNone o (Refuses (IsOreOperand tokens.now) 1)) }
 {
-    let Ok(operand) = read_module(alloc, tokens) else {
-        return Err(NoMemory);
-    };
+    let operand = read_module(alloc, tokens)?;
     if let Some((operand, rest)) = operand {
         if binds(rest) >= 1 {
             return Ok(None);
         }
         return Ok(Some((twisted_of(operand), rest)));
     }
-    let Ok(read) = read_sum(alloc, Kind::Twisted, DEEPEST, false, tokens) else {
-        return Err(NoMemory);
-    };
+    let read = read_sum(alloc, Kind::Twisted, DEEPEST, false, tokens)?;
     let Some((sum, rest)) = read else {
         return Ok(None);
     };

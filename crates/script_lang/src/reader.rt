@@ -29,19 +29,15 @@ pub fn read_sum<'a>(
     let mut rest = tokens;
     let mut minus = lead;
     loop {
-        let Ok(read) = read_product(alloc, kind, depth, rest) else {
-            return Err(NoMemory);
-        };
+        let read = read_product(alloc, kind, depth, rest)?;
         let Some((factors, power, after)) = read else {
             return Ok(None);
         };
-        let Ok(_) = terms.push(Term {
+        terms.push(Term {
             minus,
             factors,
             power,
-        }) else {
-            return Err(NoMemory);
-        };
+        })?;
         let Some((next, more)) = after_term_sign(after) else {
             return Ok(Some((Sum { terms }, after)));
         };
@@ -68,15 +64,11 @@ fn read_product<'a>(
         if let Some((power, after)) = ending(kind, rest) {
             return Ok(Some((factors, power, after)));
         }
-        let Ok(read) = read_factor(alloc, kind, depth, rest) else {
-            return Err(NoMemory);
-        };
+        let read = read_factor(alloc, kind, depth, rest)?;
         let Some((front, after)) = read else {
             return Ok(None);
         };
-        let Ok(_) = factors.push(front) else {
-            return Err(NoMemory);
-        };
+        factors.push(front)?;
         let Some(more) = after_sign(after, Sign::Star) else {
             return Ok(Some((factors, 0, after)));
         };
@@ -109,9 +101,7 @@ fn read_factor<'a>(
         return Ok(None);
     };
     let (lead, more) = after_minus(opened);
-    let Ok(read) = read_sum(alloc, inside, depth - 1, lead, more) else {
-        return Err(NoMemory);
-    };
+    let read = read_sum(alloc, inside, depth - 1, lead, more)?;
     let Some((group, after)) = read else {
         return Ok(None);
     };

@@ -6,9 +6,9 @@ use Rattle.std.specs.List.{take_while, list_any}
 use Rattle.std.specs.Option.{option_or}
 use Rattle.std.specs.Char.{is_ascii_digit}
 use Rattle.std.specs.Str.Parse.{digits_value}
-use Rattle.script_lang.specs.declared.Form.{Form}
-use Rattle.script_lang.specs.declared.SizeKind.{SizeKind}
-use Rattle.script_lang.specs.declared.SizeKind.TheVariants as size
+use Rattle.script_statement.specs.declared.Form.{Form}
+use Rattle.script_parse.specs.declared.size.SizeKind.{SizeKind}
+use Rattle.script_parse.specs.declared.size.SizeKind.TheVariants as size
 use Rattle.script_lang.specs.declared.Token.{Token}
 use Rattle.script_lang.specs.declared.Token.TheVariants as token
 use Rattle.script_lang.specs.Lines.{content, is_blank}
@@ -16,13 +16,13 @@ use Rattle.script_lang.specs.Tokens.{is_word_byte, word_token, capped, BeginsWit
 use Rattle.script_lang.proofs.Equal.{cons_same}
 use Rattle.script_lang.proofs.Lexing.{tokens_once}
 use Rattle.script_statement.specs.declared.Verb.{Verb}
-use Rattle.script_statement.specs.Verbs.{verb_of}
-use Rattle.script_statement.specs.Statements.{IsStatement}
+use Rattle.script_statement.specs.Statements.{IsVerb, IsOperands, IsStatement}
+use Rattle.script_statement.proofs.OneForm.{verb_once}
 use Rattle.script_parse.specs.declared.line.Line.TheVariants as line
 use Rattle.script_parse.specs.Exact.{IsExact, StandsFor}
-use Rattle.script_parse.specs.Limits.{over_limit, place_limit, is_bounded, number_limit, is_empty, passes, first_limit, operands_limit, tokens_limit, is_as, is_naming, gives_name, line_limit}
+use Rattle.script_parse.specs.Limits.{over_limit, place_limit, is_bounded, number_limit, is_empty, passes, first_limit, is_as, is_naming, gives_name, line_limit}
 use Rattle.script_parse.specs.Says.{LineSays}
-use Rattle.script_parse.proofs.Shapes.{SameShape, shape_next, shape_statement}
+use Rattle.script_parse.proofs.Shapes.{SameShape, shape_next, shape_operands, shape_statement}
 
 pub data Caps : List Token → List Token → Type 0 where
   no_caps : Caps [] []
@@ -133,71 +133,63 @@ caps_equal v before (Caps.cap_number {n = n} {us = us} x) e =
     let g = number_none v before (capped n) us (nat_lt 999999999 (capped n)) refl f in
     cons_same (ap token.Number (sym (within_capped n g))) (caps_equal v (t ∷ before) x (second_none (passes v before t us) (first_limit v (t ∷ before) us) e))
 
-operands_same : (v : Option Verb) {ts us : List Token} → Caps ts us → operands_limit v ts ≡ operands_limit v us
-operands_same None x = refl
-operands_same (Some v) x = limits_same v [] x
-
-tokens_same : {ts us : List Token} → Caps ts us → tokens_limit ts ≡ tokens_limit us
-tokens_same Caps.no_caps = refl
-tokens_same (Caps.cap_number x) = refl
-tokens_same (Caps.cap_same {t = token.Word w} x) = operands_same (verb_of w) x
-tokens_same (Caps.cap_same {t = token.Number n} x) = refl
-tokens_same (Caps.cap_same {t = token.Letter l} x) = refl
-tokens_same (Caps.cap_same {t = token.As} x) = refl
-tokens_same (Caps.cap_same {t = token.Sign s} x) = refl
-
 as_same : {ts us : List Token} → Caps ts us → list_any is_as ts ≡ list_any is_as us
 as_same Caps.no_caps = refl
 as_same (Caps.cap_number x) = as_same x
 as_same (Caps.cap_same {t = t} x) = ap (λ b. is_as t || b) (as_same x)
 
-names_same : {ts us : List Token} → Caps ts us → gives_name ts ≡ gives_name us
-names_same Caps.no_caps = refl
-names_same (Caps.cap_number x) = refl
-names_same (Caps.cap_same {t = token.Word w} x) = ap (λ b. is_naming (verb_of w) || b) (as_same x)
-names_same (Caps.cap_same {t = token.Number n} x) = refl
-names_same (Caps.cap_same {t = token.Letter l} x) = refl
-names_same (Caps.cap_same {t = token.As} x) = refl
-names_same (Caps.cap_same {t = token.Sign s} x) = refl
-
-line_same : (s g : ℕ) {ts us : List Token} → Caps ts us → line_limit s g ts ≡ line_limit s g us
-line_same s g x =
-    let a = names_same x in
-    let b = tokens_same x in
+line_same : (s g : ℕ) (v : Verb) {ts us : List Token} → Caps ts us → line_limit s g v ts ≡ line_limit s g v us
+line_same s g v x =
+    let a = ap (λ b. is_naming v || b) (as_same x) in
+    let b = limits_same v [] x in
     cc
 
--- A statement without a limit has the same tokens.
-within_equal_at : (w : List ℕ) (v : Verb) {ts us : List Token} → Caps ts us → verb_of w ≡ Some v → operands_limit (verb_of w) us ≡ None → ts ≡ us
-within_equal_at w v {ts} {us} x e f = caps_equal v [] x (subst (λ q. operands_limit q us ≡ None) e f)
+line_within : (s g : ℕ) (v : Verb) (us : List Token) → line_limit s g v us ≡ None → first_limit v [] us ≡ None
+line_within s g v us e = grind (arith, nat_tests)
 
-within_equal : {ts us : List Token} {f : Form} → Caps ts us → IsStatement us f → tokens_limit us ≡ None → ts ≡ us
-within_equal Caps.no_caps y h = elim y [ ]
-within_equal (Caps.cap_number x) y h = elim y [ ]
-within_equal (Caps.cap_same x) (IsStatement.says {w = w} {v = v} e y) h = cons_same refl (within_equal_at w v x e h)
-
-line_within : (s g : ℕ) (us : List Token) → line_limit s g us ≡ None → tokens_limit us ≡ None
-line_within s g us e = grind (arith, nat_tests)
+-- The exact tokens of a line begin with the same verb, and the numbers of its operands are capped.
+verb_back : {ts us rest : List Token} {v : Verb} → Caps ts us → IsVerb us v rest → (more : List Token) × IsVerb ts v more × Caps more rest
+verb_back Caps.no_caps y = elim y [ ]
+verb_back (Caps.cap_number x) y = elim y [ ]
+verb_back (Caps.cap_same {ts = ts} x) (IsVerb.begins e) = (ts, IsVerb.begins e, x)
 
 -- What the reader of a line finds.
 pub no_tokens_no_form : (l : List ℕ) → ((us : List Token) → IsTokens (content l) us → ⊥) → (f : Form) → StandsFor l f → ⊥
 no_tokens_no_form l h f x = let e = exact_tokens x.1 in h e.0 e.1
 
-pub no_statement_no_form : (l : List ℕ) (us : List Token) → IsTokens (content l) us → ((f : Form) → IsStatement us f → ⊥) → (f : Form) → StandsFor l f → ⊥
+no_statement_no_form : (l : List ℕ) (us : List Token) → IsTokens (content l) us → ((f : Form) → IsStatement us f → ⊥) → (f : Form) → StandsFor l f → ⊥
 no_statement_no_form l us y h f x =
     let e = exact_tokens x.1 in
     let g = shape_statement x.2 (caps_shape e.2) in
     h g.0 (subst (λ q. IsStatement q g.0) (tokens_once (content l) e.0 us e.1 y) g.1)
 
-pub size_said : (s g : ℕ) (l : List ℕ) (us : List Token) (f : Form) (k : SizeKind) → is_blank l ≡ false → IsTokens (content l) us → IsStatement us f → line_limit s g us ≡ Some k
-    → LineSays s g l (line.Size k)
-size_said s g l us f k b x y e =
-    let t = tokens_exact x in
-    let z = shape_statement y (caps_back t.2) in
-    LineSays.too_large b t.1 z.1 (line_same s g t.2 ∙ e)
+no_verb_no_statement : (us : List Token) → ((v : Verb) (rest : List Token) → IsVerb us v rest → ⊥) → (f : Form) → IsStatement us f → ⊥
+no_verb_no_statement us h f (IsStatement.says {v = v} {rest = rest} x y) = h v rest x
 
-pub form_said : (s g : ℕ) (l : List ℕ) (us : List Token) (f : Form) (named : Bool) → is_blank l ≡ false → IsTokens (content l) us → IsStatement us f → line_limit s g us ≡ None
-    → named ≡ gives_name us → LineSays s g l (line.Says f named)
-form_said s g l us f named b x y e k =
+pub no_verb_no_form : (l : List ℕ) (us : List Token) → IsTokens (content l) us → ((v : Verb) (rest : List Token) → IsVerb us v rest → ⊥) → (f : Form) → StandsFor l f → ⊥
+no_verb_no_form l us y h = no_statement_no_form l us y (no_verb_no_statement us h)
+
+no_operands_no_statement : (us rest : List Token) (v : Verb) → IsVerb us v rest → ((f : Form) → IsOperands v rest f → ⊥) → (f : Form) → IsStatement us f → ⊥
+no_operands_no_statement us rest v x h f (IsStatement.says {rest = more} y z) =
+    let e = verb_once x y in
+    let k : IsOperands v more f = subst (λ q. IsOperands q more f) (sym e.0) z in
+    h f (subst (λ q. IsOperands v q f) (sym e.1) k)
+
+pub no_operands_no_form : (l : List ℕ) (us rest : List Token) (v : Verb) → IsTokens (content l) us → IsVerb us v rest → ((f : Form) → IsOperands v rest f → ⊥) → (f : Form) → StandsFor l f → ⊥
+no_operands_no_form l us rest v y x h = no_statement_no_form l us y (no_operands_no_statement us rest v x h)
+
+pub size_said : (s g : ℕ) (l : List ℕ) (us rest : List Token) (v : Verb) (f : Form) (k : SizeKind) → is_blank l ≡ false → IsTokens (content l) us → IsVerb us v rest → IsOperands v rest f
+    → line_limit s g v rest ≡ Some k → LineSays s g l (line.Size k)
+size_said s g l us rest v f k b x w y e =
     let t = tokens_exact x in
-    let q = within_equal t.2 y (line_within s g us e) in
-    subst (λ v. LineSays s g l (line.Says f v)) (sym k) (LineSays.statement b (subst (λ r. IsExact (content l) r) q t.1) y e)
+    let i = verb_back t.2 w in
+    let z = shape_operands y (caps_back i.2) in
+    LineSays.too_large b t.1 i.1 z.1 (line_same s g v i.2 ∙ e)
+
+pub form_said : (s g : ℕ) (l : List ℕ) (us rest : List Token) (v : Verb) (f : Form) (named : Bool) → is_blank l ≡ false → IsTokens (content l) us → IsVerb us v rest → IsOperands v rest f
+    → line_limit s g v rest ≡ None → named ≡ gives_name v rest → LineSays s g l (line.Says f named)
+form_said s g l us rest v f named b x w y e k =
+    let t = tokens_exact x in
+    let i = verb_back t.2 w in
+    let q = caps_equal v [] i.2 (line_within s g v rest e) in
+    subst (λ a. LineSays s g l (line.Says f a)) (sym k) (LineSays.statement b t.1 (subst (λ r. IsVerb t.0 v r) q i.1) y e)

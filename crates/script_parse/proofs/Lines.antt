@@ -1,9 +1,9 @@
 -- The loop over the lines of a script.
 use Rattle.std.proofs.Common.{◌≡◌, ℕ, ◌+◌, ◌*◌, ◌<◌, ◌≤◌, ◌==◌, if◌then◌else◌, Bool, true, false, List, [], ◌∷◌, ◌++◌, length, refl, sym, ap, ◌∙◌, subst, append_assoc, append-nil, arith}
 use Rattle.std.specs.Str.Lines.{strip_carriage_return}
-use Rattle.script_lang.specs.declared.Form.{Form}
-use Rattle.script_lang.specs.declared.SizeKind.{SizeKind}
-use Rattle.script_lang.specs.declared.Statement.{Statement}
+use Rattle.script_statement.specs.declared.Form.{Form}
+use Rattle.script_parse.specs.declared.size.SizeKind.{SizeKind}
+use Rattle.script_parse.specs.declared.script.Statement.{Statement}
 use Rattle.script_lang.specs.Lines.{lines, with_first}
 use Rattle.script_lang.proofs.Equal.{same_head}
 use Rattle.script_parse.specs.declared.line.Line.TheVariants as line

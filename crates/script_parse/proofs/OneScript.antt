@@ -1,15 +1,16 @@
 -- A line says one thing, so lines are one script or have one first fault, and not both.
 use Rattle.std.proofs.Common.{◌≡◌, ℕ, ◌+◌, Bool, List, length, refl, sym, ap, ◌∙◌, subst}
 use Rattle.std.specs.Str.Lines.{strip_carriage_return}
-use Rattle.script_lang.specs.declared.Form.{Form}
-use Rattle.script_lang.specs.declared.SizeKind.{SizeKind}
-use Rattle.script_lang.specs.declared.Statement.{Statement}
+use Rattle.script_statement.specs.declared.Form.{Form}
+use Rattle.script_parse.specs.declared.size.SizeKind.{SizeKind}
+use Rattle.script_parse.specs.declared.script.Statement.{Statement}
 use Rattle.script_lang.specs.declared.Token.{Token}
 use Rattle.script_lang.specs.declared.Token.TheVariants as token
 use Rattle.script_lang.proofs.Equal.{same_some, cons_same}
 use Rattle.script_lang.proofs.Lexing.{space_no_sign, space_no_digit, space_no_letter, digit_no_sign, digit_no_letter, letter_no_sign}
-use Rattle.script_statement.specs.Statements.{IsStatement}
-use Rattle.script_statement.proofs.OneForm.{statement_once}
+use Rattle.script_statement.specs.declared.Verb.{Verb}
+use Rattle.script_statement.specs.Statements.{IsVerb, IsOperands, IsStatement}
+use Rattle.script_statement.proofs.OneForm.{verb_once, statement_once}
 use Rattle.script_parse.specs.declared.line.Line.{Line}
 use Rattle.script_parse.specs.declared.line.Line.TheVariants as line
 use Rattle.script_parse.specs.declared.script.Refused.{Refused}
@@ -41,26 +42,37 @@ exact_once (IsExact.exact_word h x) (IsExact.exact_word k y) = cons_same refl (e
 pub stands_once : (l : List ℕ) (f g : Form) → StandsFor l f → StandsFor l g → f ≡ g
 stands_once l f g x y = statement_once x.2 (subst (λ q. IsStatement q g) (sym (exact_once x.1 y.1)) y.2)
 
+-- A line has one list of tokens, one verb, and one list of operands.
+one_limit : (s g : ℕ) {bs : List ℕ} {ts us xs ys : List Token} {v w : Verb} → IsExact bs ts → IsVerb ts v us → IsExact bs xs → IsVerb xs w ys → line_limit s g v us ≡ line_limit s g w ys
+one_limit s g {ys = ys} {w = w} a b c d =
+    let e = verb_once b (subst (λ q. IsVerb q w ys) (sym (exact_once a c)) d) in
+    (λ i. line_limit s g (e.0 i) (e.1 i))
+
+one_naming : {bs : List ℕ} {ts us xs ys : List Token} {v w : Verb} → IsExact bs ts → IsVerb ts v us → IsExact bs xs → IsVerb xs w ys → gives_name v us ≡ gives_name w ys
+one_naming {ys = ys} {w = w} a b c d =
+    let e = verb_once b (subst (λ q. IsVerb q w ys) (sym (exact_once a c)) d) in
+    (λ i. gives_name (e.0 i) (e.1 i))
+
 says_once : {s g : ℕ} {l : List ℕ} {p q : Line} → LineSays s g l p → LineSays s g l q → p ≡ q
 says_once (LineSays.blank h) (LineSays.blank k) = refl
 says_once (LineSays.blank h) (LineSays.no_statement k x) = absurd cc
-says_once (LineSays.blank h) (LineSays.too_large k x y e) = absurd cc
-says_once (LineSays.blank h) (LineSays.statement k x y e) = absurd cc
+says_once (LineSays.blank h) (LineSays.too_large k x y z e) = absurd cc
+says_once (LineSays.blank h) (LineSays.statement k x y z e) = absurd cc
 says_once (LineSays.no_statement h n) (LineSays.blank k) = absurd cc
 says_once (LineSays.no_statement h n) (LineSays.no_statement k m) = refl
-says_once (LineSays.no_statement h n) (LineSays.too_large {ts = ts} {f = f} k x y e) = absurd (n f (ts, x, y))
-says_once (LineSays.no_statement h n) (LineSays.statement {ts = ts} {f = f} k x y e) = absurd (n f (ts, x, y))
-says_once (LineSays.too_large h a b d) (LineSays.blank k) = absurd cc
-says_once (LineSays.too_large {ts = ts} {f = f} h a b d) (LineSays.no_statement k n) = absurd (n f (ts, a, b))
-says_once {s} {g} (LineSays.too_large h a b d) (LineSays.too_large k x y e) = ap line.Size (same_some (sym d ∙ ap (line_limit s g) (exact_once a x) ∙ e))
-says_once {s} {g} (LineSays.too_large h a b d) (LineSays.statement k x y e) = let f = sym d ∙ ap (line_limit s g) (exact_once a x) ∙ e in absurd cc
-says_once (LineSays.statement h a b d) (LineSays.blank k) = absurd cc
-says_once (LineSays.statement {ts = ts} {f = f} h a b d) (LineSays.no_statement k n) = absurd (n f (ts, a, b))
-says_once {s} {g} (LineSays.statement h a b d) (LineSays.too_large k x y e) = let f = sym d ∙ ap (line_limit s g) (exact_once a x) ∙ e in absurd cc
-says_once (LineSays.statement {f = f} h a b d) (LineSays.statement {f = g} k x y e) =
-    let q = exact_once a x in
-    let r : f ≡ g = statement_once b (subst (λ v. IsStatement v g) (sym q) y) in
-    (λ i. line.Says (r i) (gives_name (q i)))
+says_once (LineSays.no_statement h n) (LineSays.too_large {ts = ts} {f = f} k x y z e) = absurd (n f (ts, x, IsStatement.says y z))
+says_once (LineSays.no_statement h n) (LineSays.statement {ts = ts} {f = f} k x y z e) = absurd (n f (ts, x, IsStatement.says y z))
+says_once (LineSays.too_large h a b c d) (LineSays.blank k) = absurd cc
+says_once (LineSays.too_large {ts = ts} {f = f} h a b c d) (LineSays.no_statement k n) = absurd (n f (ts, a, IsStatement.says b c))
+says_once {s} {g} (LineSays.too_large h a b c d) (LineSays.too_large k x y z e) = ap line.Size (same_some (sym d ∙ one_limit s g a b x y ∙ e))
+says_once {s} {g} (LineSays.too_large h a b c d) (LineSays.statement k x y z e) = let f = sym d ∙ one_limit s g a b x y ∙ e in absurd cc
+says_once (LineSays.statement h a b c d) (LineSays.blank k) = absurd cc
+says_once (LineSays.statement {ts = ts} {f = f} h a b c d) (LineSays.no_statement k n) = absurd (n f (ts, a, IsStatement.says b c))
+says_once {s} {g} (LineSays.statement h a b c d) (LineSays.too_large k x y z e) = let f = sym d ∙ one_limit s g a b x y ∙ e in absurd cc
+says_once {l = l} (LineSays.statement {ts = ts} {f = f} h a b c d) (LineSays.statement {ts = us} {f = g} k x y z e) =
+    let r : f ≡ g = stands_once l f g (ts, a, IsStatement.says b c) (us, x, IsStatement.says y z) in
+    let o = one_naming a b x y in
+    (λ i. line.Says (r i) (o i))
 
 same_form : {f g : Form} {a b : Bool} → line.Says f a ≡ line.Says g b → f ≡ g
 same_form e = cc

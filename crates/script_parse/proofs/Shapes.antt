@@ -6,8 +6,8 @@ use Rattle.script_lang.specs.declared.Sign.{Sign}
 use Rattle.script_lang.specs.declared.Sign.TheVariants.{Star, Close, CloseList, Comma, Equals}
 use Rattle.script_lang.specs.declared.Token.{Token}
 use Rattle.script_lang.specs.declared.Token.TheVariants as token
-use Rattle.script_lang.specs.declared.Form.{Form}
-use Rattle.script_lang.specs.declared.Form.TheVariants as form
+use Rattle.script_statement.specs.declared.Form.{Form}
+use Rattle.script_statement.specs.declared.Form.TheVariants as form
 use Rattle.script_lang.specs.declared.Factor.{Factor}
 use Rattle.script_lang.specs.declared.Factor.TheVariants as factor
 use Rattle.script_lang.specs.declared.Kind.{Kind}
@@ -26,7 +26,7 @@ use Rattle.script_statement.specs.declared.ModuleVerb.{ModuleVerb}
 use Rattle.script_statement.specs.declared.PairVerb.{PairVerb}
 use Rattle.script_statement.specs.declared.TwistedVerb.{TwistedVerb}
 use Rattle.script_statement.specs.Verbs.{asked, related, computed, divided}
-use Rattle.script_statement.specs.Statements.{IsResult, AfterPair, AfterModule, AfterTwisted, IsOperands, IsStatement}
+use Rattle.script_statement.specs.Statements.{IsResult, AfterPair, AfterModule, AfterTwisted, IsOperands, IsVerb, IsStatement}
 
 pub data SameShape : List Token → List Token → Type 0 where
   no_tokens : SameShape [] []
@@ -181,7 +181,7 @@ shape_after_twisted : {w : TwistedVerb} {u v : OreArg} {ts us : List Token} {f :
 shape_after_twisted x y (AfterTwisted.compute {o = o} {name = name} a) s = (computed o x y name, AfterTwisted.compute (shape_result a s))
 shape_after_twisted x y (AfterTwisted.divide {d = d}) SameShape.no_tokens = (divided d x y, AfterTwisted.divide)
 
-shape_operands : {v : Verb} {ts us : List Token} {f : Form} → IsOperands v ts f → SameShape ts us → (g : Form) × IsOperands v us g
+pub shape_operands : {v : Verb} {ts us : List Token} {f : Form} → IsOperands v ts f → SameShape ts us → (g : Form) × IsOperands v us g
 shape_operands IsOperands.prime_base (SameShape.two_numbers {n = p} e SameShape.no_tokens) = (form.Base p 1 None, IsOperands.prime_base)
 shape_operands (IsOperands.power_base h x) (SameShape.two_numbers {n = p} e (SameShape.two_numbers {n = q} z s)) =
     let m = sum_to_end x s in
@@ -215,4 +215,4 @@ shape_operands (IsOperands.of_twisted x y a) s =
     (t.0, IsOperands.of_twisted e.2 d.2 t.1)
 
 pub shape_statement : {ts us : List Token} {f : Form} → IsStatement ts f → SameShape ts us → (g : Form) × IsStatement us g
-shape_statement (IsStatement.says p x) (SameShape.same_word s) = let e = shape_operands x s in (e.0, IsStatement.says p e.1)
+shape_statement (IsStatement.says (IsVerb.begins p) x) (SameShape.same_word s) = let e = shape_operands x s in (e.0, IsStatement.says (IsVerb.begins p) e.1)

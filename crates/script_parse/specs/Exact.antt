@@ -3,7 +3,7 @@ use Rattle.std.specs.Prelude.{◌≡◌, ℕ, true, Some, List, [], ◌∷◌}
 use Rattle.std.specs.List.{take_while}
 use Rattle.std.specs.Char.{is_ascii_digit, is_ascii_alphabetic}
 use Rattle.std.specs.Str.Parse.{digits_value}
-use Rattle.script_lang.specs.declared.Form.{Form}
+use Rattle.script_statement.specs.declared.Form.{Form}
 use Rattle.script_lang.specs.declared.Sign.{Sign}
 use Rattle.script_lang.specs.declared.Token.{Token}
 use Rattle.script_lang.specs.declared.Token.TheVariants as token

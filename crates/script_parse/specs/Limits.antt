@@ -8,15 +8,14 @@ use Rattle.script_lang.specs.declared.Letter.{Letter}
 use Rattle.script_lang.specs.declared.Letter.TheVariants as letter
 use Rattle.script_lang.specs.declared.Sign.{Sign}
 use Rattle.script_lang.specs.declared.Sign.TheVariants as sign
-use Rattle.script_lang.specs.declared.SizeKind.{SizeKind}
-use Rattle.script_lang.specs.declared.SizeKind.TheVariants as size
+use Rattle.script_parse.specs.declared.size.SizeKind.{SizeKind}
+use Rattle.script_parse.specs.declared.size.SizeKind.TheVariants as size
 use Rattle.script_lang.specs.declared.Token.{Token}
 use Rattle.script_lang.specs.declared.Token.TheVariants as token
 use Rattle.script_statement.specs.declared.Verb.{Verb}
 use Rattle.script_statement.specs.declared.Verb.TheVariants as verb
 use Rattle.script_statement.specs.declared.ModuleVerb.TheVariants as module_verb
 use Rattle.script_statement.specs.declared.PairVerb.TheVariants as pair_verb
-use Rattle.script_statement.specs.Verbs.{verb_of}
 
 -- A prime that a base may have.
 abbrev pub is_listed : ℕ → Bool
@@ -118,32 +117,22 @@ abbrev pub first_limit : Verb → List Token → List Token → Option SizeKind
 first_limit v before [] = None
 first_limit v before (t ∷ behind) = option_or (passes v before t behind) (first_limit v (t ∷ before) behind)
 
-abbrev pub operands_limit : Option Verb → List Token → Option SizeKind
-operands_limit None ts = None
-operands_limit (Some v) ts = first_limit v [] ts
-
--- The first limit that the tokens of a line pass.
-abbrev pub tokens_limit : List Token → Option SizeKind
-tokens_limit (token.Word w ∷ ts) = operands_limit (verb_of w) ts
-tokens_limit ts = None
-
 abbrev pub is_as : Token → Bool
 is_as token.As = true
 is_as t = false
 
-abbrev pub is_naming : Option Verb → Bool
-is_naming (Some verb.Module) = true
-is_naming (Some verb.Ore) = true
+abbrev pub is_naming : Verb → Bool
+is_naming verb.Module = true
+is_naming verb.Ore = true
 is_naming v = false
 
--- The statement gives a name: `module`, `ore`, or any with `as`.
-abbrev pub gives_name : List Token → Bool
-gives_name (token.Word w ∷ ts) = is_naming (verb_of w) || list_any is_as ts
-gives_name ts = false
+-- The statement of this verb and these operands gives a name: `module`, `ore`, or any with `as`.
+abbrev pub gives_name : Verb → List Token → Bool
+gives_name v ts = is_naming v || list_any is_as ts
 
 -- The limit that decides a line which is a statement, after so many statements and names.
-abbrev pub line_limit : ℕ → ℕ → List Token → Option SizeKind
-line_limit statements names ts =
+abbrev pub line_limit : ℕ → ℕ → Verb → List Token → Option SizeKind
+line_limit statements names v ts =
     if nat_le 1000 statements then Some size.Statements
-    else if gives_name ts && nat_le 256 names then Some size.Names
-    else tokens_limit ts
+    else if gives_name v ts && nat_le 256 names then Some size.Names
+    else first_limit v [] ts

@@ -1,10 +1,11 @@
 -- What a line says after so many statements and names.
 use Rattle.std.specs.Prelude.{◌≡◌, ℕ, true, false, Some, None, List}
-use Rattle.script_lang.specs.declared.Form.{Form}
-use Rattle.script_lang.specs.declared.SizeKind.{SizeKind}
+use Rattle.script_statement.specs.declared.Form.{Form}
+use Rattle.script_parse.specs.declared.size.SizeKind.{SizeKind}
 use Rattle.script_lang.specs.declared.Token.{Token}
 use Rattle.script_lang.specs.Lines.{is_blank, content}
-use Rattle.script_statement.specs.Statements.{IsStatement}
+use Rattle.script_statement.specs.declared.Verb.{Verb}
+use Rattle.script_statement.specs.Statements.{IsVerb, IsOperands}
 use Rattle.script_parse.specs.declared.line.Line.{Line}
 use Rattle.script_parse.specs.declared.line.Line.TheVariants as line
 use Rattle.script_parse.specs.Exact.{IsExact, StandsFor}
@@ -14,7 +15,7 @@ use Rattle.script_parse.specs.Limits.{line_limit, gives_name}
 pub data LineSays : ℕ → ℕ → List ℕ → Line → Type 0 where
   blank : {s g : ℕ} {l : List ℕ} → is_blank l ≡ true → LineSays s g l line.Blank
   no_statement : {s g : ℕ} {l : List ℕ} → is_blank l ≡ false → ((f : Form) → StandsFor l f → ⊥) → LineSays s g l line.Syntax
-  too_large : {s g : ℕ} {l : List ℕ} {ts : List Token} {f : Form} {k : SizeKind} → is_blank l ≡ false → IsExact (content l) ts → IsStatement ts f
-      → line_limit s g ts ≡ Some k → LineSays s g l (line.Size k)
-  statement : {s g : ℕ} {l : List ℕ} {ts : List Token} {f : Form} → is_blank l ≡ false → IsExact (content l) ts → IsStatement ts f
-      → line_limit s g ts ≡ None → LineSays s g l (line.Says f (gives_name ts))
+  too_large : {s g : ℕ} {l : List ℕ} {ts us : List Token} {v : Verb} {f : Form} {k : SizeKind} → is_blank l ≡ false → IsExact (content l) ts → IsVerb ts v us
+      → IsOperands v us f → line_limit s g v us ≡ Some k → LineSays s g l (line.Size k)
+  statement : {s g : ℕ} {l : List ℕ} {ts us : List Token} {v : Verb} {f : Form} → is_blank l ≡ false → IsExact (content l) ts → IsVerb ts v us
+      → IsOperands v us f → line_limit s g v us ≡ None → LineSays s g l (line.Says f (gives_name v us))

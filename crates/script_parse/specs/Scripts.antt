@@ -1,9 +1,9 @@
 -- The script that lines are, and the first line at fault.
 use Rattle.std.specs.Prelude.{ℕ, ◌+◌, Bool, true, false, List, [], ◌∷◌, length}
 use Rattle.std.specs.Str.Lines.{strip_carriage_return}
-use Rattle.script_lang.specs.declared.Form.{Form}
-use Rattle.script_lang.specs.declared.SizeKind.{SizeKind}
-use Rattle.script_lang.specs.declared.Statement.{Statement}
+use Rattle.script_statement.specs.declared.Form.{Form}
+use Rattle.script_parse.specs.declared.size.SizeKind.{SizeKind}
+use Rattle.script_parse.specs.declared.script.Statement.{Statement}
 use Rattle.script_parse.specs.declared.line.Line.TheVariants as line
 use Rattle.script_parse.specs.declared.script.Refused.{Refused}
 use Rattle.script_parse.specs.declared.script.Refused.TheVariants as refused

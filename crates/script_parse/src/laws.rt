@@ -2,8 +2,8 @@
 
 ghost use Rattle.std.specs.Prelude.{◌≡◌, ℕ, List, true};
 ghost use Rattle.script_parse.specs.Limits.{is_listed, greatest_power, IsGreatestPower};
-ghost use Rattle.script_lang.specs.declared.Form.{Form};
-ghost use Rattle.script_lang.specs.declared.Statement.{Statement};
+ghost use Rattle.script_statement.specs.declared.Form.{Form};
+ghost use Rattle.script_parse.specs.declared.script.Statement.{Statement};
 ghost use Rattle.script_parse.specs.declared.script.Refused.{Refused};
 ghost use Rattle.script_parse.specs.Exact.{StandsFor};
 ghost use Rattle.script_parse.specs.Scripts.{IsScript, FirstFault};

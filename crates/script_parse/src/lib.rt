@@ -5,8 +5,10 @@ pub mod laws;
 mod limit;
 mod line;
 mod script;
+mod size;
 #[cfg(test)]
 mod tests;
 
 pub use line::Line;
-pub use script::{Refused, SCRIPT_LIMIT, parse};
+pub use script::{Refused, SCRIPT_LIMIT, Script, Statement, parse};
+pub use size::SizeKind;

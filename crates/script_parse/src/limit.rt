@@ -2,10 +2,11 @@ ghost use Rattle.std.specs.Prelude.{◌≡◌, ◌∷◌, ◌||◌, ◌+◌, ◌
 ghost use Rattle.std.specs.List.{list_any};
 ghost use Rattle.script_lang.specs.declared.Token.{Token};
 ghost use Rattle.script_statement.specs.declared.Verb.{Verb};
-ghost use Rattle.script_parse.specs.Limits.{is_listed, greatest_power, over_limit, exponent_limit, place_limit, is_bounded, number_limit, modules, ends_operand, is_comma, is_opening, comma_limit, sign_limit, passes, first_limit, is_as, is_naming};
+ghost use Rattle.script_parse.specs.Limits.{is_listed, greatest_power, over_limit, exponent_limit, place_limit, is_bounded, number_limit, modules, ends_operand, is_comma, is_opening, comma_limit, sign_limit, passes, first_limit, is_as, is_naming, gives_name};
 ghost use Rattle.script_parse.specs.Scan.{spot_of, IsSeen};
 
-use script_lang::{Letter, Sign, SizeKind, Token, first};
+use super::size::SizeKind;
+use script_lang::{Letter, Sign, Token, first};
 use script_statement::{ModuleVerb, PairVerb, Verb};
 
 /// Where the tokens after the verb end.
@@ -241,19 +242,19 @@ fn commas_after(commas: u8, token: &Token) -> u8
     }
 }
 
-/// Whether the statement of this verb and the tokens after it gives a name.
-pub(crate) fn statement_gives_name(verb: Option<Verb>, tokens: &[Token]) -> bool
-    ensures { result ≡ (is_naming verb || list_any is_as tokens.now) }
+/// Whether the statement of this verb and these operands gives a name.
+pub(crate) fn gives_name(verb: Verb, tokens: &[Token]) -> bool
+    ensures { result ≡ gives_name verb tokens.now }
 {
     is_naming(verb) || has_as(tokens)
 }
 
-fn is_naming(verb: Option<Verb>) -> bool
+fn is_naming(verb: Verb) -> bool
     ensures { result ≡ is_naming verb }
 {
     match verb {
-        Some(Verb::Module) => true,
-        Some(Verb::Ore) => true,
+        Verb::Module => true,
+        Verb::Ore => true,
         _ => false,
     }
 }

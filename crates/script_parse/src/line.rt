@@ -1,11 +1,12 @@
 ghost use Rattle.std.specs.Prelude.{◌≡◌, IfOk};
-ghost use Rattle.script_parse.specs.Limits.{tokens_limit, gives_name, line_limit};
+ghost use Rattle.script_parse.specs.Limits.{gives_name, line_limit};
 ghost use Rattle.script_parse.specs.Says.{LineSays};
 
-use super::limit::{first_limit, statement_gives_name};
+use super::limit::{first_limit, gives_name};
+use super::size::SizeKind;
 use ring_core::NoMemory;
-use script_lang::{Form, SizeKind, Token, content_of, is_blank, tokens, word};
-use script_statement::{read_statement, verb_of};
+use script_lang::{Token, content_of, is_blank, tokens};
+use script_statement::{Form, Verb, read_operands, read_verb};
 use std::alloc::Global;
 
 /// What a line says: nothing, no statement, a statement that passes a limit, or a form, and whether its
@@ -31,56 +32,40 @@ pub(crate) fn read_line(
     if is_blank(line) {
         return Ok(Line::Blank);
     }
-    let Ok(lexed) = tokens(alloc, content_of(line)) else {
-        return Err(NoMemory);
-    };
+    let lexed = tokens(alloc, content_of(line))?;
     let Some(list) = lexed else {
         return Ok(Line::Syntax);
     };
-    let Ok(read) = read_statement(alloc, &list) else {
-        return Err(NoMemory);
+    let Some((verb, operands)) = read_verb(&list) else {
+        return Ok(Line::Syntax);
     };
+    let read = read_operands(alloc, verb, operands)?;
     let Some(form) = read else {
         return Ok(Line::Syntax);
     };
-    if let Some(kind) = line_limit(statements, names, &list) {
+    let named = gives_name(verb, operands);
+    if let Some(kind) = line_limit(statements, names, named, verb, operands) {
         return Ok(Line::Size(kind));
     }
-    Ok(Line::Says(form, gives_name(&list)))
+    Ok(Line::Says(form, named))
 }
 
-/// The limit that decides a line which is a statement.
-fn line_limit(statements: u32, names: u32, tokens: &[Token]) -> Option<SizeKind>
-    ensures { result ≡ line_limit statements names tokens.now }
+/// The limit that decides a line which is a statement; `named` says whether it gives a name.
+fn line_limit(
+    statements: u32,
+    names: u32,
+    named: bool,
+    verb: Verb,
+    operands: &[Token],
+) -> Option<SizeKind>
+    requires { named ≡ gives_name verb operands.now }
+    ensures { result ≡ line_limit statements names verb operands.now }
 {
     if 1000 <= statements {
         return Some(SizeKind::Statements);
     }
-    if gives_name(tokens) && 256 <= names {
+    if named && 256 <= names {
         return Some(SizeKind::Names);
     }
-    tokens_limit(tokens)
-}
-
-/// The first limit that the tokens of a line pass.
-fn tokens_limit(tokens: &[Token]) -> Option<SizeKind>
-    ensures { result ≡ tokens_limit tokens.now }
-{
-    let Some((text, rest)) = word(tokens) else {
-        return None;
-    };
-    let Some(verb) = verb_of(text) else {
-        return None;
-    };
-    first_limit(verb, rest)
-}
-
-/// Whether the statement of these tokens gives a name.
-fn gives_name(tokens: &[Token]) -> bool
-    ensures { result ≡ gives_name tokens.now }
-{
-    let Some((text, rest)) = word(tokens) else {
-        return false;
-    };
-    statement_gives_name(verb_of(text), rest)
+    first_limit(verb, operands)
 }

@@ -5,12 +5,30 @@ ghost use Rattle.script_parse.specs.declared.script.TheConstants.{SCRIPT_LIMIT};
 ghost use Rattle.script_parse.specs.Scripts.{IsScript, FirstFault, count};
 
 use super::line::{Line, read_line};
-use script_lang::{Script, SizeKind, Statement, next_line};
+use super::size::SizeKind;
+use script_lang::next_line;
+use script_statement::Form;
 use sqlite_items::Items;
 use std::alloc::Global;
 
 /// The most bytes that a script may have.
 pub const SCRIPT_LIMIT: usize = 65536;
+
+/// The statements of a script, in their order.
+#[derive(Drop)]
+pub struct Script {
+    pub list: Items<Statement>,
+}
+
+/// A statement with the number of its line, from 1, and the places in the script of the line's first
+/// byte and of the byte after its last, without its carriage return and line feed.
+#[derive(Drop)]
+pub struct Statement {
+    pub line: u32,
+    pub start: usize,
+    pub stop: usize,
+    pub form: Form,
+}
 
 /// Why bytes are no script: the first line at fault, which isn't blank and is no statement, or is a
 /// statement and passes the limit of this kind; or memory is refused.

@@ -1,6 +1,5 @@
 use super::*;
 use ring_core::NoMemory;
-use script_lang::SizeKind;
 use std::alloc::Global;
 use std::test::Fail;
 

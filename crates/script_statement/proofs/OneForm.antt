@@ -1,8 +1,8 @@
 -- Tokens stand for at most one form.
 use Rattle.std.proofs.Common.{◌≡◌, ℕ, true, List, [], ◌∷◌, Option, Some, None, refl, sym, ap, ◌∙◌, subst, lit<, arith}
 use Rattle.script_lang.specs.declared.Token.{Token}
-use Rattle.script_lang.specs.declared.Form.{Form}
-use Rattle.script_lang.specs.declared.Form.TheVariants as form
+use Rattle.script_statement.specs.declared.form.Form.{Form}
+use Rattle.script_statement.specs.declared.form.Form.TheVariants as form
 use Rattle.script_lang.specs.declared.ModArg.{ModArg}
 use Rattle.script_lang.specs.declared.Name.{Name}
 use Rattle.script_lang.specs.declared.OreArg.{OreArg}
@@ -17,7 +17,7 @@ use Rattle.script_statement.specs.declared.verb.ModuleVerb.{ModuleVerb}
 use Rattle.script_statement.specs.declared.verb.PairVerb.{PairVerb}
 use Rattle.script_statement.specs.declared.verb.TwistedVerb.{TwistedVerb}
 use Rattle.script_statement.specs.Verbs.{verb_of, computed}
-use Rattle.script_statement.specs.Statements.{IsResult, AfterPair, AfterModule, AfterTwisted, IsOperands, IsStatement}
+use Rattle.script_statement.specs.Statements.{IsResult, AfterPair, AfterModule, AfterTwisted, IsOperands, IsVerb, IsStatement}
 use Rattle.script_statement.proofs.Ends.{name_once}
 
 pub result_begins : {ts : List Token} {n : Option Name} → IsResult ts n → binds ts ≡ 0
@@ -103,6 +103,11 @@ operands_once (IsOperands.of_twisted {w = w} {us = us} {vs = vs} {u = u} {v = v}
     let b2 : AfterTwisted w u v vs2 g = subst (λ q. AfterTwisted w u q vs2 g) (sym k.1) b1 in
     after_twisted_once a (subst (λ q. AfterTwisted w u v q g) (sym k.0) b2)
 
+pub verb_once : {ts rest more : List Token} {v w : Verb} → IsVerb ts v rest → IsVerb ts w more → (v ≡ w) × (rest ≡ more)
+verb_once (IsVerb.begins e) (IsVerb.begins h) = (same_some (sym e ∙ h), refl)
+
 pub statement_once : {ts : List Token} {f g : Form} → IsStatement ts f → IsStatement ts g → f ≡ g
-statement_once (IsStatement.says {v = v} {ts = ts} e x) (IsStatement.says {f = g} k y) =
-    operands_once x (subst (λ q. IsOperands q ts g) (sym (same_some (sym e ∙ k))) y)
+statement_once (IsStatement.says {v = v} {rest = rest} x y) (IsStatement.says {rest = more} {f = g} z t) =
+    let e = verb_once x z in
+    let u : IsOperands v more g = subst (λ q. IsOperands q more g) (sym e.0) t in
+    operands_once y (subst (λ q. IsOperands v q g) (sym e.1) u)

@@ -3,7 +3,7 @@ use Rattle.std.proofs.Common.{◌≡◌, ◌≢◌, ℕ, ◌<◌, Bool, true, fa
 use Rattle.script_lang.specs.declared.Sign.TheVariants.{Minus, Equals}
 use Rattle.script_lang.specs.declared.Token.{Token}
 use Rattle.script_lang.specs.declared.Token.TheVariants as token
-use Rattle.script_lang.specs.declared.Form.{Form}
+use Rattle.script_statement.specs.declared.form.Form.{Form}
 use Rattle.script_lang.specs.declared.Kind.TheVariants as kind
 use Rattle.script_lang.specs.declared.ModArg.{ModArg}
 use Rattle.script_lang.specs.declared.Name.{Name}
@@ -26,7 +26,7 @@ use Rattle.script_statement.specs.declared.verb.Relation.{Relation}
 use Rattle.script_statement.specs.declared.verb.Operation.{Operation}
 use Rattle.script_statement.specs.declared.verb.Division.{Division}
 use Rattle.script_statement.specs.Verbs.{verb_of}
-use Rattle.script_statement.specs.Statements.{IsResult, AfterPair, AfterModule, AfterTwisted, IsOperands, IsStatement}
+use Rattle.script_statement.specs.Statements.{IsResult, AfterPair, AfterModule, AfterTwisted, IsOperands, IsVerb}
 use Rattle.script_statement.proofs.Ends.{name_once}
 use Rattle.script_statement.proofs.OneForm.{result_begins, after_twisted_begins}
 
@@ -201,18 +201,12 @@ top_without_sum_at n us h f (IsOperands.top {m = m} k x) = h m x
 pub top_without_sum : (ts us : List Token) (n : ℕ) → ts ≡ token.Number n ∷ us → ((m : Sum) → IsSum kind.TopModulus 16 false us [] m → ⊥) → (f : Form) → IsOperands verb.Over ts f → ⊥
 top_without_sum ts us n e h f x = top_without_sum_at n us h f (subst (λ q. IsOperands verb.Over q f) e x)
 
--- The whole statement.
-pub no_word : (ts : List Token) → ((w : List ℕ) (us : List Token) → ts ≢ token.Word w ∷ us) → (f : Form) → IsStatement ts f → ⊥
-no_word ts h f (IsStatement.says {w = w} {ts = us} e x) = h w us refl
+-- The first word.
+pub no_word : (ts : List Token) → ((w : List ℕ) (us : List Token) → ts ≢ token.Word w ∷ us) → (v : Verb) (rest : List Token) → IsVerb ts v rest → ⊥
+no_word ts h v rest (IsVerb.begins {w = w} e) = h w rest refl
 
-no_verb_at : (us : List Token) (w : List ℕ) → verb_of w ≡ None → (f : Form) → IsStatement (token.Word w ∷ us) f → ⊥
-no_verb_at us w h f (IsStatement.says e x) = cc
+no_verb_at : (us : List Token) (w : List ℕ) → verb_of w ≡ None → (v : Verb) (rest : List Token) → IsVerb (token.Word w ∷ us) v rest → ⊥
+no_verb_at us w h v rest (IsVerb.begins e) = cc
 
-pub no_verb : (ts us : List Token) (w : List ℕ) → ts ≡ token.Word w ∷ us → verb_of w ≡ None → (f : Form) → IsStatement ts f → ⊥
-no_verb ts us w e h f x = no_verb_at us w h f (subst (λ q. IsStatement q f) e x)
-
-no_operands_at : (us : List Token) (w : List ℕ) (v : Verb) → verb_of w ≡ Some v → ((f : Form) → IsOperands v us f → ⊥) → (f : Form) → IsStatement (token.Word w ∷ us) f → ⊥
-no_operands_at us w v e h f (IsStatement.says k x) = h f (subst (λ q. IsOperands q us f) (sym (same_some (sym e ∙ k))) x)
-
-pub no_operands : (ts us : List Token) (w : List ℕ) (v : Verb) → ts ≡ token.Word w ∷ us → verb_of w ≡ Some v → ((f : Form) → IsOperands v us f → ⊥) → (f : Form) → IsStatement ts f → ⊥
-no_operands ts us w v e g h f x = no_operands_at us w v g h f (subst (λ q. IsStatement q f) e x)
+pub no_verb : (ts us : List Token) (w : List ℕ) → ts ≡ token.Word w ∷ us → verb_of w ≡ None → (v : Verb) (rest : List Token) → IsVerb ts v rest → ⊥
+no_verb ts us w e h v rest x = no_verb_at us w h v rest (subst (λ q. IsVerb q v rest) e x)

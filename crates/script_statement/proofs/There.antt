@@ -3,8 +3,8 @@ use Rattle.std.proofs.Common.{◌≡◌, ◌≢◌, ℕ, Bool, true, false, List
 use Rattle.script_lang.specs.declared.Sign.TheVariants.{Minus, Equals}
 use Rattle.script_lang.specs.declared.Token.{Token}
 use Rattle.script_lang.specs.declared.Token.TheVariants as token
-use Rattle.script_lang.specs.declared.Form.{Form}
-use Rattle.script_lang.specs.declared.Form.TheVariants as form
+use Rattle.script_statement.specs.declared.form.Form.{Form}
+use Rattle.script_statement.specs.declared.form.Form.TheVariants as form
 use Rattle.script_lang.specs.declared.Kind.TheVariants as kind
 use Rattle.script_lang.specs.declared.ModArg.{ModArg}
 use Rattle.script_lang.specs.declared.Name.{Name}
@@ -22,7 +22,7 @@ use Rattle.script_statement.specs.declared.verb.Relation.{Relation}
 use Rattle.script_statement.specs.declared.verb.Operation.{Operation}
 use Rattle.script_statement.specs.declared.verb.Division.{Division}
 use Rattle.script_statement.specs.Verbs.{verb_of, asked, related, computed, divided}
-use Rattle.script_statement.specs.Statements.{IsResult, AfterPair, AfterModule, AfterTwisted, IsOperands, IsStatement}
+use Rattle.script_statement.specs.Statements.{IsResult, AfterPair, AfterModule, AfterTwisted, IsOperands, IsVerb}
 
 pub relate_there : (r : Relation) (m n : ModArg) (ts : List Token) (f : Form) → ts ≡ [] → f ≡ related r m n → AfterPair (pair_verb.Relate r) m n ts f
 relate_there r m n ts f e g = subst (λ q. AfterPair (pair_verb.Relate r) m n q f) (sym e) (subst (λ h. AfterPair (pair_verb.Relate r) m n [] h) (sym g) AfterPair.relate)
@@ -62,5 +62,5 @@ pub negative_there : (ts us vs ws : List Token) (n : Name) (s : Sum) → IsName 
     → IsOperands verb.Ore ts (form.Ore n (twisted_operand.Terms s))
 negative_there ts us vs ws n s x e g y = IsOperands.new_negative (subst (λ q. IsName ts q n) (e ∙ ap (λ q. token.Sign Equals ∷ q) g) x) y
 
-pub says_there : (ts us : List Token) (w : List ℕ) (v : Verb) (f : Form) → ts ≡ token.Word w ∷ us → verb_of w ≡ Some v → IsOperands v us f → IsStatement ts f
-says_there ts us w v f e g x = subst (λ q. IsStatement q f) (sym e) (IsStatement.says g x)
+pub verb_there : (ts rest : List Token) (w : List ℕ) (v : Verb) → ts ≡ token.Word w ∷ rest → verb_of w ≡ Some v → IsVerb ts v rest
+verb_there ts rest w v e h = subst (λ q. IsVerb q v rest) (sym e) (IsVerb.begins h)

@@ -3,8 +3,8 @@ use Rattle.std.specs.Prelude.{◌≡◌, ◌≢◌, ℕ, Bool, true, false, Opti
 use Rattle.script_lang.specs.declared.Sign.TheVariants.{Minus, Equals}
 use Rattle.script_lang.specs.declared.Token.{Token}
 use Rattle.script_lang.specs.declared.Token.TheVariants as token
-use Rattle.script_lang.specs.declared.Form.{Form}
-use Rattle.script_lang.specs.declared.Form.TheVariants as form
+use Rattle.script_statement.specs.declared.form.Form.{Form}
+use Rattle.script_statement.specs.declared.form.Form.TheVariants as form
 use Rattle.script_lang.specs.declared.Kind.TheVariants as kind
 use Rattle.script_lang.specs.declared.ModArg.{ModArg}
 use Rattle.script_lang.specs.declared.Name.{Name}
@@ -72,6 +72,10 @@ pub data IsOperands : Verb → List Token → Form → Type 0 where
   of_twisted : {w : TwistedVerb} {ts us vs : List Token} {u v : OreArg} {f : Form} → IsOreOperand ts us u → IsOreOperand us vs v → AfterTwisted w u v vs f
       → IsOperands (verb.OfTwisted w) ts f
 
+-- The tokens of a line begin with the word of a verb, and those are left.
+pub data IsVerb : List Token → Verb → List Token → Type 0 where
+  begins : {w : List ℕ} {v : Verb} {rest : List Token} → verb_of w ≡ Some v → IsVerb (token.Word w ∷ rest) v rest
+
 -- The tokens of a line stand for a form.
 pub data IsStatement : List Token → Form → Type 0 where
-  says : {w : List ℕ} {v : Verb} {ts : List Token} {f : Form} → verb_of w ≡ Some v → IsOperands v ts f → IsStatement (token.Word w ∷ ts) f
+  says : {v : Verb} {ts rest : List Token} {f : Form} → IsVerb ts v rest → IsOperands v rest f → IsStatement ts f

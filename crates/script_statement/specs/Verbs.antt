@@ -1,8 +1,8 @@
 -- The first words of statements, and the form that each gives its operands.
 use Rattle.std.specs.Prelude.{ℕ, if◌then◌else◌, Option, Some, None, List, codes}
 use Rattle.std.specs.Str.{bytes_eq}
-use Rattle.script_lang.specs.declared.Form.{Form}
-use Rattle.script_lang.specs.declared.Form.TheVariants as form
+use Rattle.script_statement.specs.declared.form.Form.{Form}
+use Rattle.script_statement.specs.declared.form.Form.TheVariants as form
 use Rattle.script_lang.specs.declared.ModArg.{ModArg}
 use Rattle.script_lang.specs.declared.Name.{Name}
 use Rattle.script_lang.specs.declared.OreArg.{OreArg}

@@ -2,7 +2,7 @@
 
 ghost use Rattle.std.specs.Prelude.{◌≡◌, List};
 ghost use Rattle.script_lang.specs.declared.Token.{Token};
-ghost use Rattle.script_lang.specs.declared.Form.{Form};
+ghost use Rattle.script_statement.specs.declared.form.Form.{Form};
 ghost use Rattle.script_statement.specs.Statements.{IsStatement};
 
 /// The tokens of a line stand for at most one form.

@@ -1,8 +1,10 @@
 ghost use Rattle.std.specs.Prelude.{◌≡◌, List, [], IfOk, IfSome, IfNone};
 ghost use Rattle.script_lang.specs.declared.Token.{Token};
-ghost use Rattle.script_lang.specs.declared.Form.{Form};
-ghost use Rattle.script_statement.specs.Statements.{AfterPair, AfterModule, AfterTwisted, IsOperands, IsStatement};
+ghost use Rattle.script_statement.specs.declared.form.Form.{Form};
+ghost use Rattle.script_statement.specs.Statements.{AfterPair, AfterModule, AfterTwisted, IsVerb, IsOperands};
+ghost use Rattle.script_statement.specs.declared.verb.Verb.{Verb};
 
+use super::form::Form;
 use super::verb::{
     ModuleVerb, PairVerb, TwistedVerb, Verb, asked, computed, divided, related, verb_of,
 };
@@ -11,34 +13,29 @@ use super::whole::{
 };
 use ring_core::NoMemory;
 use script_lang::{
-    DEEPEST, Form, Kind, ModArg, OreArg, Sign, Token, after_sign, number, read_module, read_name,
+    DEEPEST, Kind, ModArg, OreArg, Sign, Token, after_sign, number, read_module, read_name,
     read_sum, read_twisted, word,
 };
 use std::alloc::Global;
 
-/// The statement that the first word and the operands of a line are; None where the tokens are no
-/// statement. `NoMemory` where memory is refused.
-pub fn read_statement(alloc: Global, tokens: &[Token]) -> Result<Option<Form>, NoMemory>
-    ensures found { IfOk result (λ o. IfSome o (λ f. IsStatement tokens.now f)) }
-    ensures refused { IfOk result (λ o. IfNone o ((f : Form) → ¬ IsStatement tokens.now f)) }
+/// The verb that the first word of a line is, and the tokens of its operands; None where the tokens
+/// begin with no such word.
+pub fn read_verb(tokens: &[Token]) -> Option<(Verb, &[Token])>
+    ensures found { IfSome result (λ p. IsVerb tokens.now p.0 p.1.now) }
+    ensures refused { IfNone result ((v : Verb) (rest : List Token) → ¬ IsVerb tokens.now v rest) }
 {
     let Some((text, rest)) = word(tokens) else {
-        return Ok(None);
+        return None;
     };
     let Some(verb) = verb_of(text) else {
-        return Ok(None);
+        return None;
     };
-    let Ok(read) = read_operands(alloc, verb, rest) else {
-        return Err(NoMemory);
-    };
-    let Some(form) = read else {
-        return Ok(None);
-    };
-    Ok(Some(form))
+    Some((verb, rest))
 }
 
-/// The form of a verb and its operands.
-fn read_operands(alloc: Global, verb: Verb, tokens: &[Token]) -> Result<Option<Form>, NoMemory>
+/// The form of a verb and its operands; None where the tokens are no operands of it. `NoMemory` where
+/// memory is refused.
+pub fn read_operands(alloc: Global, verb: Verb, tokens: &[Token]) -> Result<Option<Form>, NoMemory>
     ensures found { IfOk result (λ o. IfSome o (λ f. IsOperands verb tokens.now f)) }
     ensures refused { IfOk result (λ o. IfNone o ((f : Form) → ¬ IsOperands verb tokens.now f)) }
 {
@@ -74,9 +71,7 @@ fn read_base(alloc: Global, tokens: &[Token]) -> Result<Option<Form>, NoMemory>
     if s == 0 {
         return Ok(None);
     }
-    let Ok(read) = whole_sum(alloc, Kind::BaseModulus, false, more) else {
-        return Err(NoMemory);
-    };
+    let read = whole_sum(alloc, Kind::BaseModulus, false, more)?;
     let Some(sum) = read else {
         return Ok(None);
     };
@@ -98,9 +93,7 @@ fn read_over(alloc: Global, tokens: &[Token]) -> Result<Option<Form>, NoMemory>
     if n == 0 {
         return Ok(None);
     }
-    let Ok(read) = whole_sum(alloc, Kind::TopModulus, false, rest) else {
-        return Err(NoMemory);
-    };
+    let read = whole_sum(alloc, Kind::TopModulus, false, rest)?;
     let Some(modulus) = read else {
         return Ok(None);
     };
@@ -112,18 +105,14 @@ fn read_new_module(alloc: Global, tokens: &[Token]) -> Result<Option<Form>, NoMe
     ensures found { IfOk result (λ o. IfSome o (λ f. IsOperands Verb.Module tokens.now f)) }
     ensures refused { IfOk result (λ o. IfNone o ((f : Form) → ¬ IsOperands Verb.Module tokens.now f)) }
 {
-    let Ok(named) = read_name(alloc, tokens) else {
-        return Err(NoMemory);
-    };
+    let named = read_name(alloc, tokens)?;
     let Some((name, rest)) = named else {
         return Ok(None);
     };
     let Some(value) = after_sign(rest, Sign::Equals) else {
         return Ok(None);
     };
-    let Ok(read) = whole_list(alloc, value) else {
-        return Err(NoMemory);
-    };
+    let read = whole_list(alloc, value)?;
     let Some(list) = read else {
         return Ok(None);
     };
@@ -135,9 +124,7 @@ fn read_new_ore(alloc: Global, tokens: &[Token]) -> Result<Option<Form>, NoMemor
     ensures found { IfOk result (λ o. IfSome o (λ f. IsOperands Verb.Ore tokens.now f)) }
     ensures refused { IfOk result (λ o. IfNone o ((f : Form) → ¬ IsOperands Verb.Ore tokens.now f)) }
 {
-    let Ok(named) = read_name(alloc, tokens) else {
-        return Err(NoMemory);
-    };
+    let named = read_name(alloc, tokens)?;
     let Some((name, rest)) = named else {
         return Ok(None);
     };
@@ -145,9 +132,7 @@ fn read_new_ore(alloc: Global, tokens: &[Token]) -> Result<Option<Form>, NoMemor
         return Ok(None);
     };
     if let Some(after) = after_sign(value, Sign::Minus) {
-        let Ok(read) = whole_sum(alloc, Kind::Twisted, true, after) else {
-            return Err(NoMemory);
-        };
+        let read = whole_sum(alloc, Kind::Twisted, true, after)?;
         let Some(sum) = read else {
             return Ok(None);
         };
@@ -156,9 +141,7 @@ fn read_new_ore(alloc: Global, tokens: &[Token]) -> Result<Option<Form>, NoMemor
             value: OreArg::Terms(sum),
         }));
     }
-    let Ok(operand) = whole_twisted(alloc, value) else {
-        return Err(NoMemory);
-    };
+    let operand = whole_twisted(alloc, value)?;
     let Some(value) = operand else {
         return Ok(None);
     };
@@ -170,9 +153,7 @@ fn read_show(alloc: Global, tokens: &[Token]) -> Result<Option<Form>, NoMemory>
     ensures found { IfOk result (λ o. IfSome o (λ f. IsOperands Verb.Show tokens.now f)) }
     ensures refused { IfOk result (λ o. IfNone o ((f : Form) → ¬ IsOperands Verb.Show tokens.now f)) }
 {
-    let Ok(read) = whole_name(alloc, tokens) else {
-        return Err(NoMemory);
-    };
+    let read = whole_name(alloc, tokens)?;
     let Some(name) = read else {
         return Ok(None);
     };
@@ -188,15 +169,11 @@ fn read_of_module(
     ensures found { IfOk result (λ o. IfSome o (λ f. IsOperands (Verb.OfModule verb) tokens.now f)) }
     ensures refused { IfOk result (λ o. IfNone o ((f : Form) → ¬ IsOperands (Verb.OfModule verb) tokens.now f)) }
 {
-    let Ok(first) = read_module(alloc, tokens) else {
-        return Err(NoMemory);
-    };
+    let first = read_module(alloc, tokens)?;
     let Some((phi, rest)) = first else {
         return Ok(None);
     };
-    let Ok(read) = after_module(alloc, verb, phi, rest) else {
-        return Err(NoMemory);
-    };
+    let read = after_module(alloc, verb, phi, rest)?;
     let Some(form) = read else {
         return Ok(None);
     };
@@ -238,15 +215,11 @@ fn after_image(alloc: Global, phi: ModArg, tokens: &[Token]) -> Result<Option<Fo
     ensures found { IfOk result (λ o. IfSome o (λ f. AfterModule ModuleVerb.Image phi tokens.now f)) }
     ensures refused { IfOk result (λ o. IfNone o ((f : Form) → ¬ AfterModule ModuleVerb.Image phi tokens.now f)) }
 {
-    let Ok(read) = read_sum(alloc, Kind::Polynomial, DEEPEST, false, tokens) else {
-        return Err(NoMemory);
-    };
+    let read = read_sum(alloc, Kind::Polynomial, DEEPEST, false, tokens)?;
     let Some((a, rest)) = read else {
         return Ok(None);
     };
-    let Ok(result) = read_result(alloc, rest) else {
-        return Err(NoMemory);
-    };
+    let result = read_result(alloc, rest)?;
     let Some(name) = result else {
         return Ok(None);
     };
@@ -258,15 +231,11 @@ fn after_quotient(alloc: Global, phi: ModArg, tokens: &[Token]) -> Result<Option
     ensures found { IfOk result (λ o. IfSome o (λ f. AfterModule ModuleVerb.Quotient phi tokens.now f)) }
     ensures refused { IfOk result (λ o. IfNone o ((f : Form) → ¬ AfterModule ModuleVerb.Quotient phi tokens.now f)) }
 {
-    let Ok(read) = read_twisted(alloc, tokens) else {
-        return Err(NoMemory);
-    };
+    let read = read_twisted(alloc, tokens)?;
     let Some((u, rest)) = read else {
         return Ok(None);
     };
-    let Ok(result) = read_result(alloc, rest) else {
-        return Err(NoMemory);
-    };
+    let result = read_result(alloc, rest)?;
     let Some(name) = result else {
         return Ok(None);
     };
@@ -278,9 +247,7 @@ fn after_motive(alloc: Global, phi: ModArg, tokens: &[Token]) -> Result<Option<F
     ensures found { IfOk result (λ o. IfSome o (λ f. AfterModule ModuleVerb.Motive phi tokens.now f)) }
     ensures refused { IfOk result (λ o. IfNone o ((f : Form) → ¬ AfterModule ModuleVerb.Motive phi tokens.now f)) }
 {
-    let Ok(read) = whole_twisted(alloc, tokens) else {
-        return Err(NoMemory);
-    };
+    let read = whole_twisted(alloc, tokens)?;
     let Some(u) = read else {
         return Ok(None);
     };
@@ -297,15 +264,11 @@ fn read_pair(
     ensures found { IfOk result (λ o. IfSome o (λ f. AfterModule (ModuleVerb.Pair verb) phi tokens.now f)) }
     ensures refused { IfOk result (λ o. IfNone o ((f : Form) → ¬ AfterModule (ModuleVerb.Pair verb) phi tokens.now f)) }
 {
-    let Ok(second) = read_module(alloc, tokens) else {
-        return Err(NoMemory);
-    };
+    let second = read_module(alloc, tokens)?;
     let Some((psi, rest)) = second else {
         return Ok(None);
     };
-    let Ok(read) = after_pair(alloc, verb, phi, psi, rest) else {
-        return Err(NoMemory);
-    };
+    let read = after_pair(alloc, verb, phi, psi, rest)?;
     let Some(form) = read else {
         return Ok(None);
     };
@@ -337,9 +300,7 @@ fn after_pair(
             Ok(Some(Form::Bounded { phi, psi, d }))
         }
         PairVerb::Check => {
-            let Ok(read) = whole_twisted(alloc, tokens) else {
-                return Err(NoMemory);
-            };
+            let read = whole_twisted(alloc, tokens)?;
             let Some(u) = read else {
                 return Ok(None);
             };
@@ -357,21 +318,15 @@ fn read_of_twisted(
     ensures found { IfOk result (λ o. IfSome o (λ f. IsOperands (Verb.OfTwisted verb) tokens.now f)) }
     ensures refused { IfOk result (λ o. IfNone o ((f : Form) → ¬ IsOperands (Verb.OfTwisted verb) tokens.now f)) }
 {
-    let Ok(first) = read_twisted(alloc, tokens) else {
-        return Err(NoMemory);
-    };
+    let first = read_twisted(alloc, tokens)?;
     let Some((u, rest)) = first else {
         return Ok(None);
     };
-    let Ok(second) = read_twisted(alloc, rest) else {
-        return Err(NoMemory);
-    };
+    let second = read_twisted(alloc, rest)?;
     let Some((v, more)) = second else {
         return Ok(None);
     };
-    let Ok(read) = after_twisted(alloc, verb, u, v, more) else {
-        return Err(NoMemory);
-    };
+    let read = after_twisted(alloc, verb, u, v, more)?;
     let Some(form) = read else {
         return Ok(None);
     };
@@ -391,9 +346,7 @@ fn after_twisted(
 {
     match verb {
         TwistedVerb::Compute(operation) => {
-            let Ok(read) = read_result(alloc, tokens) else {
-                return Err(NoMemory);
-            };
+            let read = read_result(alloc, tokens)?;
             let Some(name) = read else {
                 return Ok(None);
             };

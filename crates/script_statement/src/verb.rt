@@ -1,7 +1,8 @@
 ghost use Rattle.std.specs.Prelude.{◌≡◌};
 ghost use Rattle.script_statement.specs.Verbs.{verb_of, question_verb_of, module_verb_of, pair_verb_of, twisted_verb_of, asked, related, computed, divided};
 
-use script_lang::{Form, ModArg, Name, OreArg};
+use super::form::Form;
+use script_lang::{ModArg, Name, OreArg};
 
 /// The first word of a statement, by what follows it.
 #[derive(Clone, Copy)]

@@ -40,9 +40,7 @@ pub(crate) fn whole_name(alloc: Global, tokens: &[Token]) -> Result<Option<Name>
     ensures found { IfOk result (λ o. IfSome o (λ x. IsName tokens.now [] x)) }
     ensures refused { IfOk result (λ o. IfNone o ((x : Name) → ¬ IsName tokens.now [] x)) }
 {
-    let Ok(read) = read_name(alloc, tokens) else {
-        return Err(NoMemory);
-    };
+    let read = read_name(alloc, tokens)?;
     let Some((name, rest)) = read else {
         return Ok(None);
     };
@@ -57,9 +55,7 @@ pub(crate) fn whole_list(alloc: Global, tokens: &[Token]) -> Result<Option<Items
     ensures found { IfOk result (λ o. IfSome o (λ x. IsList tokens.now [] x)) }
     ensures refused { IfOk result (λ o. IfNone o ((x : List Sum) → ¬ IsList tokens.now [] x)) }
 {
-    let Ok(read) = read_list(alloc, tokens) else {
-        return Err(NoMemory);
-    };
+    let read = read_list(alloc, tokens)?;
     let Some((list, rest)) = read else {
         return Ok(None);
     };
@@ -79,9 +75,7 @@ pub(crate) fn whole_sum(
     ensures found { IfOk result (λ o. IfSome o (λ x. IsSum kind 16 lead tokens.now [] x)) }
     ensures refused { IfOk result (λ o. IfNone o ((x : Sum) → ¬ IsSum kind 16 lead tokens.now [] x)) }
 {
-    let Ok(read) = read_sum(alloc, kind, DEEPEST, lead, tokens) else {
-        return Err(NoMemory);
-    };
+    let read = read_sum(alloc, kind, DEEPEST, lead, tokens)?;
     let Some((sum, rest)) = read else {
         return Ok(None);
     };
@@ -96,9 +90,7 @@ pub(crate) fn whole_twisted(alloc: Global, tokens: &[Token]) -> Result<Option<Or
     ensures found { IfOk result (λ o. IfSome o (λ x. IsOreOperand tokens.now [] x)) }
     ensures refused { IfOk result (λ o. IfNone o ((x : OreArg) → ¬ IsOreOperand tokens.now [] x)) }
 {
-    let Ok(read) = read_twisted(alloc, tokens) else {
-        return Err(NoMemory);
-    };
+    let read = read_twisted(alloc, tokens)?;
     let Some((operand, rest)) = read else {
         return Ok(None);
     };
@@ -119,9 +111,7 @@ pub(crate) fn read_result(alloc: Global, tokens: &[Token]) -> Result<Option<Opti
     let Token::As = token else {
         return Ok(None);
     };
-    let Ok(read) = whole_name(alloc, rest) else {
-        return Err(NoMemory);
-    };
+    let read = whole_name(alloc, rest)?;
     let Some(name) = read else {
         return Ok(None);
     };

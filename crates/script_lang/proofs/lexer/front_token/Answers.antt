@@ -14,7 +14,7 @@ returns-then-is_ascii_digit-clause-found c =
 
 pub returns-then-is_ascii_alphabetic-clause-found : goal.returns-then-is_ascii_alphabetic-clause-found
 returns-then-is_ascii_alphabetic-clause-found c =
-    word_front c.args.bytes.now c.in-Some.more.now c.in-Some.byte c.word_len-end.result c.in-Ok.token (search rules) (search rules) (search rules) (search rules)
+    word_front c.args.bytes.now c.in-Some.more.now c.in-Some.byte c.word_len-end.result c.in_ok-token.token (search rules) (search rules) (search rules) (search rules)
 
 pub returns-clause-refused : goal.returns-clause-refused
 returns-clause-refused c = no_front c.args.bytes.now c.in-Some.more.now c.in-Some.byte (search rules) (search rules) (search rules) (search rules)

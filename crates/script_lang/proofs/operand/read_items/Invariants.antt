@@ -2,8 +2,8 @@ use Rattle.std.proofs.Common.{length}
 use Rattle.script_lang.proofs.Operands.{ItemsSoFar}
 use Rattle.script_lang.proofs.operand.read_items.Given as goal
 
-abbrev pub invariant-loop-read : goal.invariant-loop-read
-invariant-loop-read l = ItemsSoFar l.tokens l.rest l.list
+abbrev pub invariant-loop-list : goal.invariant-loop-list
+invariant-loop-list l = ItemsSoFar l.tokens l.rest l.list
 
-abbrev pub decreases-loop-read : goal.decreases-loop-read
-decreases-loop-read l = length l.rest
+abbrev pub decreases-loop-list : goal.decreases-loop-list
+decreases-loop-list l = length l.rest

@@ -46,19 +46,19 @@ read_product-loop-power-preserved t c =
     let x : IsFactor c.args.kind c.args.depth c.loop-power.rest.now c.in-Some-read.after.now c.in-Some-read.front = search rules in
     factors_more c.args.kind c.args.depth c.args.tokens.now c.loop-power.rest.now c.in-Some-read.after.now c.in-Some-after_sign.more.now c.in-Some-read.front c.loop-power.factors c.push.new.self c.loop-power.invariant x (search rules) (search rules) (search rules)
 
-pub read_sum-returns-in_default-read-clause-refused : goal.read_sum-returns-in_default-read-clause-refused
-read_sum-returns-in_default-read-clause-refused t c =
-    terms_refused c.args.kind c.args.depth c.args.lead c.args.tokens.now c.loop-read.minus c.loop-read.rest.now c.loop-read.terms c.loop-read.invariant (search rules)
+pub read_sum-returns-in_default-clause-refused : goal.read_sum-returns-in_default-clause-refused
+read_sum-returns-in_default-clause-refused t c =
+    terms_refused c.args.kind c.args.depth c.args.lead c.args.tokens.now c.loop-terms.minus c.loop-terms.rest.now c.loop-terms.terms c.loop-terms.invariant (search rules)
 
 pub read_sum-returns-in_default-after_term_sign-clause-found : goal.read_sum-returns-in_default-after_term_sign-clause-found
 read_sum-returns-in_default-after_term_sign-clause-found t c =
-    let x : IsProduct c.args.kind c.args.depth c.loop-read.rest.now c.in-Some.after.now c.in-Some.factors c.in-Some.power = search rules in
+    let x : IsProduct c.args.kind c.args.depth c.loop-terms.rest.now c.in-Some.after.now c.in-Some.factors c.in-Some.power = search rules in
     let b : binds c.in-Some.after.now < 2 = search rules in (
-      terms_end c.args.kind c.args.depth c.args.lead c.args.tokens.now c.loop-read.minus c.loop-read.rest.now c.in-Some.after.now c.in-Some.factors c.in-Some.power c.loop-read.terms c.push.new.self c.loop-read.invariant x (search rules),
+      terms_end c.args.kind c.args.depth c.args.lead c.args.tokens.now c.loop-terms.minus c.loop-terms.rest.now c.in-Some.after.now c.in-Some.factors c.in-Some.power c.loop-terms.terms c.push.new.self c.loop-terms.invariant x (search rules),
       no_term_sign c.in-Some.after.now (search rules) b,
     )
 
-pub read_sum-loop-read-preserved : goal.read_sum-loop-read-preserved
-read_sum-loop-read-preserved t c =
-    let x : IsProduct c.args.kind c.args.depth c.loop-read.rest.now c.in-Some.after.now c.in-Some.factors c.in-Some.power = search rules in
-    terms_more c.args.kind c.args.depth c.args.lead c.args.tokens.now c.loop-read.minus c.in-Some-after_term_sign.next c.loop-read.rest.now c.in-Some.after.now c.in-Some-after_term_sign.more.now c.in-Some.factors c.in-Some.power c.loop-read.terms c.push.new.self c.loop-read.invariant x (search rules) (search rules) (search rules)
+pub read_sum-loop-terms-preserved : goal.read_sum-loop-terms-preserved
+read_sum-loop-terms-preserved t c =
+    let x : IsProduct c.args.kind c.args.depth c.loop-terms.rest.now c.in-Some.after.now c.in-Some.factors c.in-Some.power = search rules in
+    terms_more c.args.kind c.args.depth c.args.lead c.args.tokens.now c.loop-terms.minus c.in-Some-after_term_sign.next c.loop-terms.rest.now c.in-Some.after.now c.in-Some-after_term_sign.more.now c.in-Some.factors c.in-Some.power c.loop-terms.terms c.push.new.self c.loop-terms.invariant x (search rules) (search rules) (search rules)

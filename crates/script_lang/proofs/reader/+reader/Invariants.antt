@@ -17,8 +17,8 @@ invariant-read_product-loop-power l = FactorsSoFar l.kind l.depth l.tokens l.res
 abbrev pub decreases-read_product-loop-power : goal.decreases-read_product-loop-power
 decreases-read_product-loop-power l = length l.rest
 
-abbrev pub invariant-read_sum-loop-read : goal.invariant-read_sum-loop-read
-invariant-read_sum-loop-read l = TermsSoFar l.kind l.depth l.lead l.tokens l.minus l.rest l.terms
+abbrev pub invariant-read_sum-loop-terms : goal.invariant-read_sum-loop-terms
+invariant-read_sum-loop-terms l = TermsSoFar l.kind l.depth l.lead l.tokens l.minus l.rest l.terms
 
-abbrev pub decreases-read_sum-loop-read : goal.decreases-read_sum-loop-read
-decreases-read_sum-loop-read l = length l.rest
+abbrev pub decreases-read_sum-loop-terms : goal.decreases-read_sum-loop-terms
+decreases-read_sum-loop-terms l = length l.rest

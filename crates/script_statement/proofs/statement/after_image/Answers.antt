@@ -5,8 +5,8 @@ use Rattle.script_statement.specs.Statements.{IsResult, AfterPair, AfterModule, 
 use Rattle.script_statement.proofs.Refused.{image_without_sum, image_without_result}
 use Rattle.script_statement.proofs.statement.after_image.Goals as goal
 
-pub returns-in_default-read-clause-refused : goal.returns-in_default-read-clause-refused
-returns-in_default-read-clause-refused c =
+pub returns-in_default-clause-refused : goal.returns-in_default-clause-refused
+returns-in_default-clause-refused c =
     image_without_sum c.args.phi c.args.tokens.now (search rules)
 
 pub returns-in_default-result-clause-refused : goal.returns-in_default-result-clause-refused

@@ -5,8 +5,8 @@ use Rattle.script_statement.specs.Statements.{IsResult, AfterPair, AfterModule, 
 use Rattle.script_statement.proofs.Refused.{quotient_without_operand, quotient_without_result}
 use Rattle.script_statement.proofs.statement.after_quotient.Goals as goal
 
-pub returns-in_default-read-clause-refused : goal.returns-in_default-read-clause-refused
-returns-in_default-read-clause-refused c =
+pub returns-in_default-clause-refused : goal.returns-in_default-clause-refused
+returns-in_default-clause-refused c =
     quotient_without_operand c.args.phi c.args.tokens.now (search rules)
 
 pub returns-in_default-result-clause-refused : goal.returns-in_default-result-clause-refused

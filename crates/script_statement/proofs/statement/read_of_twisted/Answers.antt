@@ -5,8 +5,8 @@ use Rattle.script_statement.specs.Statements.{IsResult, AfterPair, AfterModule, 
 use Rattle.script_statement.proofs.Refused.{twisted_missing, second_missing, twisted_refused}
 use Rattle.script_statement.proofs.statement.read_of_twisted.Goals as goal
 
-pub returns-in_default-first-clause-refused : goal.returns-in_default-first-clause-refused
-returns-in_default-first-clause-refused c =
+pub returns-in_default-clause-refused : goal.returns-in_default-clause-refused
+returns-in_default-clause-refused c =
     twisted_missing c.args.verb c.args.tokens.now (search rules)
 
 pub returns-in_default-second-clause-refused : goal.returns-in_default-second-clause-refused

@@ -1,21 +1,5 @@
-use super::sum::{ModArg, Name, OreArg, Sum};
+use script_lang::{ModArg, Name, OreArg, Sum};
 use sqlite_items::Items;
-
-/// The statements of a script, in their order.
-#[derive(Drop)]
-pub struct Script {
-    pub list: Items<Statement>,
-}
-
-/// A statement with the number of its line, from 1, and the places in the script of the line's first
-/// byte and of the byte after its last, without its carriage return and line feed.
-#[derive(Drop)]
-pub struct Statement {
-    pub line: u32,
-    pub start: usize,
-    pub stop: usize,
-    pub form: Form,
-}
 
 /// What a statement asks. `phi` and `psi` are Drinfeld modules, `u` and `v` twisted polynomials, and
 /// `name` is the name that the result gets.
@@ -166,35 +150,4 @@ pub enum Form {
     Frobpower {
         phi: ModArg,
     },
-}
-
-/// What passes its limit.
-#[derive(Clone, Copy, Debug, PartialEq, Eq)]
-pub enum SizeKind {
-    /// The bytes of a script: at most 65,536.
-    Script,
-    /// The statements of a script: at most 1,000.
-    Statements,
-    /// The statements of a script that give a name: at most 256.
-    Names,
-    /// The bytes of a name: at most 32.
-    Name,
-    /// A typed number: at most 999,999,999.
-    Number,
-    /// A typed exponent of `a` or `z`: at most 128.
-    Exponent,
-    /// The prime of a base: one of 2, 3, 5, 7, 11, 13 and 251.
-    Prime,
-    /// The elements of a base: at most 256.
-    Base,
-    /// The degree of a top: at most 12.
-    Top,
-    /// The items of a list as a Drinfeld module: at most 9, for a rank of at most 8.
-    Rank,
-    /// An exponent of `t` or the degree of a product: at most 128; or the items of another list: at most 129.
-    Degree,
-    /// A typed exponent of `T`: at most 16.
-    Image,
-    /// The bound of a list of homomorphisms: at most 64.
-    Bound,
 }

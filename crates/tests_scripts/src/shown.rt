@@ -6,7 +6,8 @@
 //! `Check phi=[-z^1@0; +1@0] psi=m u=+@1+2@0`.
 
 use ring_core::NoMemory;
-use script_lang::{Factor, Form, ModArg, Name, OreArg, Sum, Term};
+use script_lang::{Factor, ModArg, Name, OreArg, Sum, Term};
+use script_statement::Form;
 use sqlite_items::Items;
 use std::alloc::Global;
 
