@@ -5,6 +5,7 @@ pub mod Unique
 pub mod Product
 pub mod Rest
 pub mod Matrix
+pub mod Columns
 pub mod Blocks
 pub mod Lists
 pub mod OneBasis

@@ -8,17 +8,16 @@ use Rattle.ring_core.specs.Coeffs.{coeff}
 use Rattle.ring_core.proofs.Carrier.{RingOn, Element, elements, same_element}
 use Rattle.ring_core.proofs.Coefficients.{coeff_past}
 use Rattle.linear_algebra.specs.Linear.{row_at, entry}
-use Rattle.linear_algebra.proofs.Sums.{unit, same_or_other}
+use Rattle.linear_algebra.proofs.Sums.{same_or_other}
 use Rattle.linear_algebra.proofs.Lift.{AllIn, rows_of, row_of}
 use Rattle.linear_algebra.proofs.Gather.{leads, lead_number, leads_more, leads_same, are_leads}
 use Rattle.flat_modules.specs.Flat.{are_flat, unit_at, times_rows, zero_rows, IsRelationOf, IsBasis}
-use Rattle.flat_modules.proofs.Lists.{flat_at, flat_in, row_past}
+use Rattle.flat_modules.proofs.Lists.{flat_at, flat_in}
 use Rattle.flat_modules.proofs.Shift.{powers}
 use Rattle.flat_modules.proofs.Product.{combine_more}
-use Rattle.flat_modules.proofs.Matrix.{start_transform}
 use Rattle.flat_reduce.specs.Turns.{Turns}
 use Rattle.flat_reduce.specs.Settled.{IsUnsettled}
-use Rattle.flat_reduce.proofs.Reduced.{HasTransform, after_turns, live, inside, settled_places}
+use Rattle.flat_reduce.proofs.Reduced.{HasTransform, after_turns, start, live, inside, settled_places}
 use Rattle.flat_reduce.proofs.Pushed.{push_low, push_last, flat_push}
 use Rattle.flat_reduce.proofs.KernelRows.{times_value, only_rows}
 
@@ -113,26 +112,8 @@ module _ {E : Type 0} (r : RingOps E) (inv : E → Option E) (field : IsField r 
       di : AllIn r (entry r ids)
       di = flat_in r ring ids df
 
-      unit_is_unit : (i t : ℕ) → unit_at r i t ≡ (unit S i t).0
-      unit_is_unit i t = elim (same_or_other i t) [
-        | inl e ↦ ap (λ b. cond b r.one r.zero) (eq-eqb i t e) ∙ sym (ap (λ a. a.0) (ap (λ b. cond b S.one S.zero) (eq-eqb i t e)))
-        | inr ne ↦ ap (λ b. cond b r.one r.zero) (ne_eqb i t ne) ∙ sym (ap (λ a. a.0) (ap (λ b. cond b S.one S.zero) (ne_eqb i t ne)))
-      ]
-
-      start : HasTransform r ring w (x ∷ xs) (x ∷ xs) ids mi
-      start = record {
-        image_in = mi;
-        left_in = di;
-        len = length (x ∷ xs);
-        back = rows_of r (entry r ids) di;
-        is = start_transform S (length (x ∷ xs)) w posn (rows_of r (entry r ids) di) (rows_of r (entry r (x ∷ xs)) mi) (rows_of r (entry r (x ∷ xs)) mi)
-            (λ i t l. same_element r _ _ (unit_is i t l ∙ unit_is_unit i t))
-            (λ i t l. same_element r _ _ (ap (λ u. coeff r u t) (row_past r ids i (omega (arith, l, dl)))))
-            (λ i t l. refl);
-      }
-
       s : HasTransform r ring w (x ∷ xs) image left mi
-      s = after_turns r ring w (x ∷ xs) mi posn (x ∷ xs) ids zeros image left columns start turned
+      s = after_turns r ring w (x ∷ xs) mi posn (x ∷ xs) ids zeros image left columns (start r ring w (x ∷ xs) mi posn ids dl di unit_is) turned
 
       picked_flat : (k : ℕ) → are_flat r (zero_rows image left k) ≡ true
       picked_flat zero = refl

@@ -5,3 +5,4 @@ pub mod Pushed
 pub mod Reduced
 pub mod KernelRows
 pub mod KernelBasis
+pub mod Reduction

@@ -1,22 +1,21 @@
 -- What came about by turns has an invertible transform; settled rows have different lead places.
-use Rattle.std.proofs.Common.{◌≡◌, ◌≢◌, ℕ, ◌+◌, ◌*◌, ◌<◌, ◌≤◌, inl, inr, true, Bool, Option, List, [], length, cond, nat_lt, sym, ◌∙◌, ap, ap₂, arith, eq-eqb, ne_eqb, ltb-true, ltb-false}
+use Rattle.std.proofs.Common.{◌≡◌, ◌≢◌, ℕ, ◌+◌, ◌*◌, ◌<◌, ◌≤◌, inl, inr, true, Bool, Option, List, [], length, cond, nat_lt, refl, sym, ◌∙◌, ap, ap₂, arith, eq-eqb, ne_eqb, ltb-true, ltb-false}
 use Rattle.std.proofs.lemmas.Bool.{and_parts}
 use Rattle.ring_core.specs.Ring.{RingOps, IsElem, IsRing}
-use Rattle.ring_core.specs.Coeffs.{are_elems, is_trimmed}
+use Rattle.ring_core.specs.Coeffs.{coeff, are_elems, is_trimmed}
 use Rattle.ring_core.proofs.Carrier.{RingOn, Element, elements, same_element, add_zero}
 use Rattle.ring_core.proofs.Coefficients.{coeff_past}
 use Rattle.ring_core.proofs.Degrees.{top_nonzero}
 use Rattle.linear_algebra.specs.Linear.{row_at, entry}
-use Rattle.linear_algebra.proofs.Sums.{same_or_other, by_bool}
+use Rattle.linear_algebra.proofs.Sums.{unit, same_or_other, by_bool}
 use Rattle.linear_algebra.proofs.Lift.{AllIn, rows_of}
-use Rattle.flat_modules.specs.Flat.{are_flat, lead_at}
+use Rattle.flat_modules.specs.Flat.{are_flat, lead_at, unit_at}
 use Rattle.flat_modules.proofs.Lists.{flat_at, row_past, shift_value}
 use Rattle.flat_modules.proofs.Shift.{shift}
 use Rattle.flat_modules.proofs.Places.{HasPlaces}
-use Rattle.flat_modules.proofs.Matrix.{Transform, row_added, turn_transform, transform_same}
+use Rattle.flat_modules.proofs.Matrix.{Transform, row_added, turn_transform, transform_same, start_transform}
 use Rattle.flat_reduce.specs.Turns.{IsRowAdded, IsTurn, Turns, none, turn}
-use Rattle.flat_reduce.specs.Settled.{IsUnsettled}
-use Rattle.flat_reduce.specs.Settled.{slot_of}
+use Rattle.flat_reduce.specs.Settled.{IsUnsettled, slot_of}
 use Rattle.flat_reduce.proofs.Settling.{some_same}
 
 module _ {E : Type 0} (r : RingOps E) (h : IsRing r) where
@@ -46,6 +45,12 @@ module _ {E : Type 0} (r : RingOps E) (h : IsRing r) where
             ∙ ap (λ b. R.add (rows i t) (cond b part R.zero)) (sym (ne_eqb i p ne))
       ]
 
+  pub unit_value : (i t : ℕ) → unit_at r i t ≡ (unit R i t).0
+  unit_value i t = elim (same_or_other i t) [
+    | inl e ↦ ap (λ b. cond b r.one r.zero) (eq-eqb i t e) ∙ sym (ap (λ a. a.0) (ap (λ b. cond b R.one R.zero) (eq-eqb i t e)))
+    | inr ne ↦ ap (λ b. cond b r.one r.zero) (ne_eqb i t ne) ∙ sym (ap (λ a. a.0) (ap (λ b. cond b R.one R.zero) (ne_eqb i t ne)))
+  ]
+
   -- some matrix undoes `left`
   pub record HasTransform (w : ℕ) (m image left : List (List E)) (mi : AllIn r (entry r m)) : Type 0 where
     pub image_in : AllIn r (entry r image)
@@ -55,7 +60,7 @@ module _ {E : Type 0} (r : RingOps E) (h : IsRing r) where
     pub is : Transform R (length m) w len (rows_of r (entry r left) left_in) back (rows_of r (entry r m) mi) (rows_of r (entry r image) image_in)
 
   module _ (w : ℕ) (m : List (List E)) (mi : AllIn r (entry r m)) (pos : 0 < length m) where
-    pub after_turn : (p q : ℕ) (image left columns image2 left2 columns2 : List (List E)) → p < length m → q < length m → p ≢ q → HasTransform w m image left mi → IsTurn r w (length m) p q image left columns image2 left2 columns2
+    unfoldable pub after_turn : (p q : ℕ) (image left columns image2 left2 columns2 : List (List E)) → p < length m → q < length m → p ≢ q → HasTransform w m image left mi → IsTurn r w (length m) p q image left columns image2 left2 columns2
         → HasTransform w m image2 left2 mi
     after_turn p q image left columns image2 left2 columns2 lp lq ne s t =
         let n = length m in
@@ -78,6 +83,20 @@ module _ {E : Type 0} (r : RingOps E) (h : IsRing r) where
     after_turns image left columns image2 left2 columns2 s none = s
     after_turns image left columns image2 left2 columns2 s (turn p q a b k c d l lp lq ne before last) =
         after_turn p q a b k c d l lp lq ne (after_turns image left columns a b k s before) last
+
+    module _ (ids : List (List E)) (dl : length ids ≡ length m) (di : AllIn r (entry r ids)) (unit_is : (i t : ℕ) → i < length m → entry r ids i t ≡ unit_at r i t) where
+      -- the identity is its own inverse
+      unfoldable pub start : HasTransform w m m ids mi
+      start = record {
+        image_in = mi;
+        left_in = di;
+        len = length m;
+        back = rows_of r (entry r ids) di;
+        is = start_transform R (length m) w pos (rows_of r (entry r ids) di) (rows_of r (entry r m) mi) (rows_of r (entry r m) mi)
+            (λ i t l. same_element r _ _ (unit_is i t l ∙ unit_value i t))
+            (λ i t l. same_element r _ _ (ap (λ u. coeff r u t) (row_past r ids i (omega (arith, l, dl)))))
+            (λ i t l. refl);
+      }
 
 -- settled rows
 module _ {E : Type 0} (r : RingOps E) (h : IsRing r) (w n : ℕ) (slot : List (Option ℕ)) (image : List (List E)) (fi : are_flat r image ≡ true) (ii : AllIn r (entry r image)) (whole : length image ≡ n)

@@ -2,7 +2,7 @@
 
 ghost use Rattle.std.specs.Prelude.{◌≡◌, ◌+◌, ◌<◌, ◌≤◌, ℕ, true, None, length, replicate, IfOk};
 ghost use Rattle.linear_algebra.specs.Linear.{entry};
-ghost use Rattle.flat_modules.specs.Flat.{are_flat, unit_at, zero_rows, IsBasis, IsRelationOf};
+ghost use Rattle.flat_modules.specs.Flat.{are_flat, unit_at, zero_rows, IsBasis, IsRelationOf, IsOfReduction};
 
 use super::lists::{copies, empty_rows, free_slots, identity_rows};
 use super::settle::settle_all;
@@ -48,7 +48,8 @@ fn settled_kernel<F: Field>(
     requires same_columns { length columns.old ≡ length image.old }
     requires free { slot.old ≡ replicate w None }
     requires unit { (i t : ℕ) → i < length image.old → entry (F.ops f.now) left.old i t ≡ unit_at (F.ops f.now) i t }
-    ensures { IfOk result (λ v. IsBasis (F.ops f.now) (length image.old) (IsRelationOf (F.ops f.now) w image.old) v.items) }
+    ensures basis { IfOk result (λ v. IsBasis (F.ops f.now) (length image.old) (IsRelationOf (F.ops f.now) w image.old) v.items) }
+    ensures source { IfOk result (λ v. IsOfReduction (F.ops f.now) w image.old v.items) }
 {
     settle_all(alloc, f, w, slot, image, left, columns)?;
     Ok(at_zeros(alloc, image, left)?)
@@ -56,7 +57,8 @@ fn settled_kernel<F: Field>(
 
 /// A basis of the relations of the flat rows of the width `w`, at least 1: each flat row `c` with a place for
 /// each row of `m` and `c m = 0` is the combination of the answer's rows by exactly one list of polynomials,
-/// whatever its degrees. The answer's rows have the width `m.len()`.
+/// whatever its degrees. The answer's rows have the width `m.len()`. They are the rows of the transform of some
+/// reduction where the image is zero.
 pub fn kernel_rows<F: Field>(
     alloc: Global,
     f: &F,
@@ -65,7 +67,8 @@ pub fn kernel_rows<F: Field>(
 ) -> Result<Vec<Poly<E<F>>>, NoMemory>
     requires width { 1 ≤ w }
     requires rows { are_flat (F.ops f.now) m.now ≡ true }
-    ensures { IfOk result (λ v. IsBasis (F.ops f.now) (length m.now) (IsRelationOf (F.ops f.now) w m.now) v.items) }
+    ensures basis { IfOk result (λ v. IsBasis (F.ops f.now) (length m.now) (IsRelationOf (F.ops f.now) w m.now) v.items) }
+    ensures source { IfOk result (λ v. IsOfReduction (F.ops f.now) w m.now v.items) }
 {
     let mut image = copies(alloc, m)?;
     let mut left = identity_rows(alloc, f, m.len())?;

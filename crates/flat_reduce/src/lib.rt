@@ -4,8 +4,10 @@
 
 mod kernel;
 pub mod lists;
+mod reduce;
 pub mod rows;
 pub mod settle;
 mod turn;
 
 pub use kernel::kernel_rows;
+pub use reduce::{ReducedRows, longest, reduce_rows};

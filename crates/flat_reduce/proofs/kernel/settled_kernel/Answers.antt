@@ -1,8 +1,9 @@
 use Rattle.std.proofs.Common.{◌≡◌, length, sym, ap, subst, ◌∙◌, arith}
-use Rattle.flat_modules.specs.Flat.{zero_rows, IsBasis, IsRelationOf}
+use Rattle.flat_modules.specs.Flat.{zero_rows, IsBasis, IsRelationOf, IsOfReduction}
 use Rattle.flat_reduce.specs.Settled.{slot_of}
 use Rattle.flat_reduce.specs.Turns.{Turns}
 use Rattle.flat_reduce.proofs.KernelBasis.{kernel_basis}
+use Rattle.flat_reduce.proofs.Reduction.{picked_listed}
 use Rattle.flat_reduce.proofs.Pushed.{free_len, not_free}
 use Rattle.flat_reduce.proofs.kernel.settled_kernel.Goals as goal
 
@@ -13,8 +14,8 @@ settle_all-requires-clause-unsettled g c = record {
   all = λ k l ne nz. absurd (ne (omega (arith, l)));
 }
 
-pub returns : goal.returns
-returns g c =
+pub returns-clause-basis : goal.returns-clause-basis
+returns-clause-basis g c =
     let f = c.args.f.now in
     let r = g.F.Field.ops f in
     let m = c.args.image.now in
@@ -26,3 +27,18 @@ returns g c =
     c.requires.images c.requires.lefts done.images done.lefts c.requires.same_len same c.requires.unit done.settled
     (subst (λ n. Turns r c.args.w n m c.args.left.now c.args.columns.now image left c.settle_all.new.columns) c.requires.same_len done.turned) in
     subst (λ v. IsBasis r (length m) (IsRelationOf r c.args.w m) v) (ap (zero_rows image left) (sym same) ∙ sym c.in_ok-at_zeros.ensures) basis
+
+pub returns-clause-source : goal.returns-clause-source
+returns-clause-source g c =
+    let f = c.args.f.now in
+    let r = g.F.Field.ops f in
+    let m = c.args.image.now in
+    let done = c.in_ok-settle_all.ensures in
+    let image = c.settle_all.new.image in
+    let left = c.settle_all.new.left in
+    let same : length image ≡ length m = omega arith in
+    let same_left : length left ≡ length m = omega (arith, c.requires.same_len) in
+    subst (IsOfReduction r c.args.w m) (ap (zero_rows image left) (sym same) ∙ sym c.in_ok-at_zeros.ensures)
+    (picked_listed r (g.F.Field.inv_of f) (g.met.F.Field.laws f) c.args.w m c.requires.images c.args.left.now c.args.columns.now image left c.settle_all.new.columns c.settle_all.new.slot
+    c.requires.lefts c.requires.same_len c.requires.unit done.images done.lefts same same_left done.settled
+    (subst (λ n. Turns r c.args.w n m c.args.left.now c.args.columns.now image left c.settle_all.new.columns) c.requires.same_len done.turned))
