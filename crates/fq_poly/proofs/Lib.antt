@@ -1,4 +1,3 @@
-pub mod Terms
 pub mod Clearing
 pub mod Shifts
 pub mod Tops

@@ -1,18 +1,14 @@
 -- The multiple of a polynomial by the inverse of its top coefficient.
-use Rattle.std.proofs.Common.{◌≡◌, ◌≢◌, ℕ, ◌+◌, ◌-◌, ◌<◌, ◌≤◌, true, Option, None, Some, MatchOption, List, [], length, sym, ◌∙◌, ap, subst, arith}
+use Rattle.std.proofs.Common.{◌≡◌, ◌≢◌, ℕ, ◌+◌, ◌-◌, ◌<◌, ◌≤◌, true, List, length, sym, ◌∙◌, ap, arith}
 use Rattle.std.proofs.lemmas.Bool.{and_parts}
 use Rattle.ring_core.specs.Ring.{RingOps, IsElem, IsRing, IsCommutative}
-use Rattle.ring_core.specs.Field.{IsField}
 use Rattle.ring_core.specs.Coeffs.{coeff, are_elems, is_trimmed, is_canonical, list_of}
 use Rattle.ring_core.proofs.Carrier.{elements, mul_zero}
 use Rattle.ring_core.proofs.Coefficients.{coeff_past, elem_read, canonical-list_of, coeff-list_of}
-use Rattle.ring_core.proofs.Degrees.{top_nonzero, length_by_top}
+use Rattle.ring_core.proofs.Degrees.{length_by_top}
 use Rattle.ring_core.proofs.Monomial.{constant_mul}
 use Rattle.ring_core.proofs.Twist.{no_twist}
 use Rattle.fq_poly.specs.Monic.{IsMonicMultiple}
-
-pub not_empty : {E : Type 0} (u : List E) → 0 < length u → u ≢ []
-not_empty u pos e = let none : length u ≡ 0 = ap length e in absurd (omega arith)
 
 module _ {E : Type 0} (r : RingOps E) (h : IsRing r) (comm : IsCommutative r) (ne : r.one ≢ r.zero) where
   pub monic_by_inverse : (a : List E) (c : E) → is_canonical r a ≡ true → 0 < length a → IsElem r c → r.mul (coeff r a (length a - 1)) c ≡ r.one
@@ -40,19 +36,3 @@ module _ {E : Type 0} (r : RingOps E) (h : IsRing r) (comm : IsCommutative r) (n
         multiple = constant_mul r h (λ c i. c) (no_twist r) c a cin e;
         top = ap (coeff r m) place ∙ top;
       }
-
-module _ {E : Type 0} (r : RingOps E) (inv : E → Option E) (k : IsField r inv) where
-  inverse_cases : (a : List E) → is_canonical r a ≡ true → 0 < length a → (o : Option E) → MatchOption o (coeff r a (length a - 1) ≡ r.zero) (λ c. IsElem r c × (r.mul (coeff r a (length a - 1)) c ≡ r.one))
-      → MatchOption o (a ≡ []) (λ c. (0 < length a) × IsElem r c × (r.mul (coeff r a (length a - 1)) c ≡ r.one))
-  inverse_cases a ca pos None is =
-      absurd (top_nonzero r k.ring.closed.zero_in k.ring.equal a (and_parts _ _ ca).1 (not_empty a pos) is)
-  inverse_cases a ca pos (Some c) is = (pos, is.0, is.1)
-
-  -- the inverse of a top coefficient, which is there where there is such a coefficient
-  pub top_inverse_is : (a : List E) (top : E) (o : Option E) → is_canonical r a ≡ true → 0 < length a → top ≡ coeff r a (length a - 1) → o ≡ inv top
-      → MatchOption o (a ≡ []) (λ c. (0 < length a) × IsElem r c × (r.mul (coeff r a (length a - 1)) c ≡ r.one))
-  top_inverse_is a top o ca pos read is =
-      let e = (and_parts _ _ ca).0 in
-      let Holds : Option E → Type 0 = λ p. MatchOption p (coeff r a (length a - 1) ≡ r.zero) (λ c. IsElem r c × (r.mul (coeff r a (length a - 1)) c ≡ r.one)) in
-      inverse_cases a ca pos o
-      (subst Holds (sym (is ∙ ap inv read)) (k.inv_is (coeff r a (length a - 1)) (elem_read r a k.ring.closed.zero_in e (length a - 1))))

@@ -1,8 +1,9 @@
 //! Division with remainder, over slices.
 ghost use Rattle.std.specs.Prelude.{◌≡◌, ℕ, ◌+◌, ◌-◌, ◌<◌, ◌≤◌, IfOk, length, true};
 ghost use Rattle.ring_core.specs.Ring.{IsElem};
-ghost use Rattle.ring_core.specs.Coeffs.{coeff, are_elems, is_canonical};
-ghost use Rattle.ring_core.specs.Twisted.{product_at};
+ghost use Rattle.ring_core.specs.Coeffs.{coeff, trim, are_elems, is_canonical};
+ghost use Rattle.ring_core.specs.Twisted.{list_add};
+ghost use Rattle.fq_poly.specs.Poly.{poly_mul};
 ghost use Rattle.fq_poly.specs.Division.{IsDivision};
 
 use ring_core::lists::{coeff_at, copy_list, trimmed};
@@ -20,7 +21,7 @@ fn clear_places<F: Field>(
     rest: &mut [E<F>],
     quotient: &mut [E<F>],
 )
-    requires divisor { are_elems (F.ops field.now) b.now ≡ true }
+    requires divisor { is_canonical (F.ops field.now) b.now ≡ true }
     requires nonzero { 0 < length b.now }
     requires inverse_in { IsElem (F.ops field.now) inverse }
     requires inverts { let r = F.ops field.now in r.mul (coeff r b.now (length b.now - 1)) inverse ≡ r.one }
@@ -30,8 +31,8 @@ fn clear_places<F: Field>(
     requires zeros { let r = F.ops field.now in (k : ℕ) → coeff r quotient.old k ≡ r.zero }
     ensures rest { are_elems (F.ops field.now) rest.new ≡ true }
     ensures quotient { are_elems (F.ops field.now) quotient.new ≡ true }
-    ensures sum { let r = F.ops field.now in (n : ℕ) → coeff r rest.old n
-        ≡ r.add (product_at r (λ c i. c) quotient.new b.now n) (coeff r rest.new n) }
+    ensures sum { let r = F.ops field.now in
+        trim r rest.old ≡ list_add r (poly_mul r (trim r quotient.new) b.now) (trim r rest.new) }
     ensures cleared { let r = F.ops field.now in (n : ℕ) → length b.now ≤ n + 1 → coeff r rest.new n ≡ r.zero }
 {
     let above = b.len() - 1;

@@ -1,13 +1,13 @@
 //! Polynomials over a field: lists of coefficients, lowest first, in a letter that commutes with them.
 #![tactic(auto)]
 
-mod constants;
 mod division;
 mod fault;
 pub mod laws;
+mod monic;
 mod poly;
-mod product;
 mod ring;
+mod shift;
 
 pub use fault::PolyFault;
 pub use poly::Poly;

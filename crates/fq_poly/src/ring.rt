@@ -3,19 +3,21 @@ ghost use Rattle.ring_core.specs.Ring.{IsElem};
 ghost use Rattle.ring_core.specs.Coeffs.{trim, are_elems, is_canonical};
 ghost use Rattle.ring_core.specs.Powers.{power_of, value_at};
 ghost use Rattle.ring_core.proofs.ListRing.{poly_ring, poly_comm};
+ghost use Rattle.ring_core.proofs.Twist.{no_twist};
 ghost use Rattle.fq_poly.specs.Poly.{poly_ops, poly_mul, letter};
 ghost use Rattle.fq_poly.specs.Division.{IsDivisionAnswer};
 ghost use Rattle.fq_poly.specs.Monic.{IsMonicAnswer};
 
-use super::constants::{monic_list, top_inverse, value_of};
 use super::division::divide_list;
 use super::fault::PolyFault;
+use super::monic::monic_list;
 use super::poly::Poly;
-use super::product::{product_list, shifted_list};
+use super::shift::shifted_list;
 use ring_core::lists::{
-    are_canonical, copy_list, equal_lists, neg_list, single_list, sum_list, trimmed,
+    are_canonical, copy_list, equal_lists, neg_list, single_list, sum_list, top_inverse, trimmed,
 };
-use ring_core::{CommRing, E, Field, NoMemory, Ring};
+use ring_core::product::product_list;
+use ring_core::{CommRing, E, Field, NoMemory, Ring, TwistedRing, value_of};
 use std::alloc::Global;
 use std::marker::Model;
 
@@ -104,6 +106,22 @@ impl<'f, F: Field> PolyRing<'f, F> {
     }
 }
 
+impl<'f, F: Field> TwistedRing for PolyRing<'f, F> {
+    type Over = F;
+
+    ghost over = { λ k. k };
+
+    ghost twist = { λ k c i. c };
+
+    fn field(&self) -> &F {
+        self.field
+    }
+
+    fn raise(&self, _row: &mut [E<F>]) {}
+
+    ghost twist_laws = { λ k. no_twist (F.ops k) };
+}
+
 impl<'f, F: Field> Ring for PolyRing<'f, F> {
     type Elem = Poly<E<F>>;
 
@@ -140,7 +158,7 @@ impl<'f, F: Field> Ring for PolyRing<'f, F> {
     }
 
     fn mul(&self, alloc: Global, a: &Poly<E<F>>, b: &Poly<E<F>>) -> Result<Poly<E<F>>, NoMemory> {
-        let coeffs = product_list(alloc, self.field, &a.coeffs, &b.coeffs)?;
+        let coeffs = product_list(alloc, self, &a.coeffs, &b.coeffs)?;
         Ok(Poly { coeffs })
     }
 

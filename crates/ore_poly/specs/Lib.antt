@@ -1,4 +1,3 @@
-pub mod Degrees
 pub mod Terms
 pub mod ProductLaws
 pub mod Module

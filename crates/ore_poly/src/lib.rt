@@ -3,7 +3,6 @@
 #![tactic(auto)]
 
 pub mod laws;
-mod product;
 mod terms;
 mod twisted;
 

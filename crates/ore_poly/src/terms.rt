@@ -24,6 +24,20 @@ pub fn lowest_place<K: Field>(field: &K, list: &[E<K>]) -> Option<usize>
     None
 }
 
+/// Raises each member to its power by `q`.
+pub fn raise_row<K: FrobField>(field: &K, row: &mut [E<K>])
+    requires { are_elems (K.ops field.now) row.old ≡ true }
+    ensures elems { are_elems (K.ops field.now) row.new ≡ true }
+    ensures raised { let r = K.ops field.now in
+        (k : ℕ) → coeff r row.new k ≡ (K.frob_ops field.now).frob (coeff r row.old k) 1 }
+{
+    for j in 0..row.len() {
+        let member = coeff_at(field, row, j);
+        let power = field.frob(member, 1);
+        row[j] = power;
+    }
+}
+
 /// The coefficient at `j` of `tau^k` times the list.
 fn shifted_at<K: FrobField>(field: &K, list: &[E<K>], k: usize, j: usize) -> E<K>
     requires { are_elems (K.ops field.now) list.now ≡ true }

@@ -4,15 +4,16 @@ ghost use Rattle.ring_core.specs.Ring.{IsElem};
 ghost use Rattle.ring_core.specs.Twisted.{list_mul, twisted_ops};
 ghost use Rattle.ring_core.specs.Monomial.{constant, tau_power};
 ghost use Rattle.ring_core.proofs.ListRing.{frob_ring};
-ghost use Rattle.ore_poly.specs.Degrees.{degree_of};
+ghost use Rattle.ring_core.proofs.Twist.{frob_twist};
+ghost use Rattle.ring_core.specs.Degrees.{degree_of};
 ghost use Rattle.ore_poly.specs.Terms.{IsLowest, applied_at};
 
-use super::product::product_list;
-use super::terms::{apply_list, lowest_place, shifted_values};
+use super::terms::{apply_list, lowest_place, raise_row, shifted_values};
 use ring_core::lists::{
     are_canonical, copy_list, equal_lists, neg_list, scaled_values, single_list, sum_list, trimmed,
 };
-use ring_core::{E, Field, FrobField, NoMemory, Ring};
+use ring_core::product::product_list;
+use ring_core::{E, Field, FrobField, NoMemory, Ring, TwistedRing};
 use std::alloc::Global;
 use std::marker::Model;
 
@@ -151,6 +152,24 @@ impl<'k, K: FrobField> OreRing<'k, K> {
     }
 }
 
+impl<'k, K: FrobField> TwistedRing for OreRing<'k, K> {
+    type Over = K;
+
+    ghost over = { λ k. k };
+
+    ghost twist = { λ k. (K.frob_ops k).frob };
+
+    fn field(&self) -> &K {
+        self.field
+    }
+
+    fn raise(&self, row: &mut [E<K>]) {
+        raise_row(self.field, row);
+    }
+
+    ghost twist_laws = { λ k. frob_twist (K.ops k) (K.inv_of k) (K.Base.ops (K.base_of k)) (K.frob_ops k) (K.laws k) (K.frob_laws k) };
+}
+
 impl<'k, K: FrobField> Ring for OreRing<'k, K> {
     type Elem = Ore<E<K>>;
 
@@ -187,7 +206,7 @@ impl<'k, K: FrobField> Ring for OreRing<'k, K> {
     }
 
     fn mul(&self, alloc: Global, a: &Ore<E<K>>, b: &Ore<E<K>>) -> Result<Ore<E<K>>, NoMemory> {
-        let coeffs = product_list(alloc, self.field, &a.coeffs, &b.coeffs)?;
+        let coeffs = product_list(alloc, self, &a.coeffs, &b.coeffs)?;
         Ok(Ore { coeffs })
     }
 

@@ -13,7 +13,7 @@ pub fn zero_list<K: Field>(alloc: Global, field: &K, n: usize) -> Result<Vec<E<K
     ensures value { IfOk result (λ v. v.items ≡ first_values n (λ i. (K.ops field.now).zero)) }
     ensures elems { IfOk result (λ v. are_elems (K.ops field.now) v.items ≡ true) }
 {
-    let mut zeros = Vec::new(alloc);
+    let mut zeros = Vec::with_capacity(alloc, n)?;
     for i in 0..n {
         let zero = field.zero();
         zeros.push(zero)?;

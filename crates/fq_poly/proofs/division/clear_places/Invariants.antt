@@ -1,6 +1,7 @@
 use Rattle.std.proofs.Common.{◌≡◌, ℕ, ◌+◌, ◌<◌, ◌≤◌, true, length}
-use Rattle.ring_core.specs.Coeffs.{coeff, are_elems}
-use Rattle.ring_core.specs.Twisted.{product_at}
+use Rattle.ring_core.specs.Coeffs.{coeff, trim, are_elems}
+use Rattle.ring_core.specs.Twisted.{list_add}
+use Rattle.fq_poly.specs.Poly.{poly_mul}
 use Rattle.fq_poly.proofs.division.clear_places.Given as goal
 
 -- The places of the quotient below `l.k` are still zero, and the rest is zero at and past the sum of
@@ -11,7 +12,7 @@ invariant-loop-k g l =
     record {
       rest_elems : are_elems r l.rest ≡ true;
       quotient_elems : are_elems r l.quotient ≡ true;
-      sum : (n : ℕ) → coeff r l.initial.rest n ≡ r.add (product_at r (λ c i. c) l.quotient l.b n) (coeff r l.rest n);
+      sum : trim r l.initial.rest ≡ list_add r (poly_mul r (trim r l.quotient) l.b) (trim r l.rest);
       empty : (n : ℕ) → n < l.k → coeff r l.quotient n ≡ r.zero;
       cleared : (n : ℕ) → l.k + length l.b ≤ n + 1 → coeff r l.rest n ≡ r.zero;
     }

@@ -37,9 +37,10 @@ returns g c =
     let quotient_count : length quotient.items ≡ quotient.len = omega (arith, quotient.ok.0) in
     let rest_kept : length cleared ≡ rest.len = omega arith in
     let quotient_kept : length written ≡ quotient.len = omega arith in
-    division_done r (g.met.F.Field.laws c.args.field.now).ring c.args.a.now c.args.b.now written cleared _ _
-    c.requires.dividend c.requires.divisor c.clear_places.ensures.quotient c.clear_places.ensures.rest c.requires.nonzero
-    (λ n. ap (λ u. coeff r u n) (sym old) ∙ c.clear_places.ensures.sum n)
+    let field = g.met.F.Field.laws c.args.field.now in
+    division_done r field.ring field.one_ne_zero c.args.a.now c.args.b.now written cleared _ _
+    c.requires.dividend c.clear_places.ensures.quotient c.clear_places.ensures.rest c.requires.nonzero
+    (ap (trim r) (sym old) ∙ c.clear_places.ensures.sum)
     c.clear_places.ensures.cleared
     (c.trimmed.ensures.value ∙ ap (trim r) (whole_written quotient.len written quotient.items quotient_kept quotient_count))
     (c.trimmed-2.ensures.value ∙ ap (trim r) (whole_written rest.len cleared rest.items rest_kept rest_count))

@@ -1,7 +1,7 @@
 use Rattle.std.proofs.Common.{◌≡◌, true}
 use Rattle.ring_core.specs.Coeffs.{coeff, are_elems}
-use Rattle.ring_core.proofs.RowSteps.{HasWritten}
-use Rattle.ore_poly.proofs.product.raise.Given as goal
+use Rattle.ring_core.specs.Written.{IsWritten}
+use Rattle.ore_poly.proofs.terms.raise_row.Given as goal
 
 abbrev pub invariant-loop-j : goal.invariant-loop-j
 invariant-loop-j g l =
@@ -9,5 +9,5 @@ invariant-loop-j g l =
     let frob = (g.K.FrobField.frob_ops l.field).frob in
     record {
       elems : are_elems r l.row ≡ true;
-      written : HasWritten r 0 (λ k. frob (coeff r l.initial.row k) 1) l.initial.row l.row l.j;
+      written : IsWritten r.zero 0 l.j (λ k. frob (coeff r l.initial.row k) 1) l.initial.row l.row;
     }

@@ -2,7 +2,7 @@ use Rattle.std.proofs.Common.{sym, ap, ◌∙◌, subst}
 use Rattle.ring_core.specs.Coeffs.{trim}
 use Rattle.fq_poly.specs.Monic.{IsMonicMultiple}
 use Rattle.fq_poly.proofs.Tops.{monic_by_inverse}
-use Rattle.fq_poly.proofs.constants.monic_list.Goals as goal
+use Rattle.fq_poly.proofs.monic.monic_list.Goals as goal
 
 pub returns : goal.returns
 returns g c =

@@ -1,11 +1,11 @@
-use Rattle.std.proofs.Common.{◌≡◌, ◌<◌, [], length, ap, sym, ◌∙◌, arith}
+use Rattle.std.proofs.Common.{◌≡◌, ◌<◌, [], ◌++◌, length, ap, sym, ◌∙◌, arith}
 use Rattle.std.proofs.lemmas.Bool.{eqb-true, eqb-false}
 use Rattle.std.proofs.lemmas.List.{nil_from_length}
 use Rattle.ring_core.specs.Coeffs.{is_canonical}
 use Rattle.ring_core.specs.Powers.{power_of}
 use Rattle.fq_poly.specs.Poly.{poly_mul, poly_ops, letter}
 use Rattle.fq_poly.proofs.Shifts.{canonical_behind, shift_is, shift_of_zero}
-use Rattle.fq_poly.proofs.product.shifted_list.Goals as goal
+use Rattle.fq_poly.proofs.shift.shifted_list.Goals as goal
 
 pub returns-then-is_empty-clause-value : goal.returns-then-is_empty-clause-value
 returns-then-is_empty-clause-value g c =
@@ -23,7 +23,8 @@ returns-clause-value g c =
     let list = c.args.list.now in
     let some = eqb-false (length list) 0 (sym c.is_empty.ensures ∙ c.if-is_empty.false) in
     let pos : 0 < length list = omega arith in
-    c.in_ok-behind_zeros.ensures ∙ shift_is r field.ring field.one_ne_zero list c.args.k c.requires pos
+    let behind = c.in_ok-extend_from_slice.ensures.items ∙ ap (λ u. u ++ list) c.in_ok-coeffs.ensures.value in
+    behind ∙ shift_is r field.ring field.one_ne_zero list c.args.k c.requires pos
 
 pub returns-clause-elem : goal.returns-clause-elem
 returns-clause-elem g c =
@@ -32,4 +33,5 @@ returns-clause-elem g c =
     let list = c.args.list.now in
     let some = eqb-false (length list) 0 (sym c.is_empty.ensures ∙ c.if-is_empty.false) in
     let pos : 0 < length list = omega arith in
-    ap (is_canonical r) c.in_ok-behind_zeros.ensures ∙ canonical_behind r c.args.k list field.ring.closed.zero_in pos c.requires
+    let behind = c.in_ok-extend_from_slice.ensures.items ∙ ap (λ u. u ++ list) c.in_ok-coeffs.ensures.value in
+    ap (is_canonical r) behind ∙ canonical_behind r c.args.k list field.ring.closed.zero_in pos c.requires
