@@ -9,7 +9,8 @@ use Rattle.linear_algebra.proofs.Sums.{by_bool}
 use Rattle.linear_algebra.proofs.Spans.{minus_plus, minus_minus}
 use Rattle.linear_algebra.proofs.Insert.{Joins, IsJoined, inserted_reduced, inserted_within, old_spanned, new_spanned}
 use Rattle.linear_algebra.proofs.Lift.{AllIn, AreIn, row_of, rows_of, to_spans, from_spans, to_reduced, from_reduced, combines_into, combines_row, combines_add, combines_minus, combines_scale, combines_as}
-use Rattle.fq_linear.specs.steps.Places.{IsWritten, cleared}
+use Rattle.ring_core.specs.Written.{IsWritten}
+use Rattle.fq_linear.specs.steps.Places.{cleared}
 use Rattle.fq_linear.specs.steps.Elimination.{row_number, is_lead, numbered_cells, slot, IsReducedTable, IsBelow, CanJoin, IsInserted}
 use Rattle.fq_linear.proofs.Places.{elem_as}
 use Rattle.fq_linear.proofs.Tables.{row_place, row_end}

@@ -8,7 +8,8 @@ use Rattle.ring_core.specs.Coeffs.{coeff, are_elems}
 use Rattle.ring_core.proofs.Coefficients.{elem_read, coeff_past}
 use Rattle.linear_algebra.proofs.Sums.{by_bool, same_or_other}
 use Rattle.linear_algebra.proofs.Lift.{AllIn}
-use Rattle.fq_linear.specs.steps.Places.{IsWritten, cleared, unit_row}
+use Rattle.ring_core.specs.Written.{IsWritten}
+use Rattle.fq_linear.specs.steps.Places.{cleared, unit_row}
 use Rattle.fq_linear.specs.Table.{row_cells}
 use Rattle.fq_linear.specs.steps.Elimination.{row_number, numbered_cells, slot, IsBelow, HasRowsWithin, augmented}
 use Rattle.fq_linear.proofs.Places.{elems_range, range_past}

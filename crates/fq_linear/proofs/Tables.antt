@@ -10,7 +10,8 @@ use Rattle.ring_core.specs.Coeffs.{coeff, are_elems}
 use Rattle.ring_core.proofs.Coefficients.{elem_read}
 use Rattle.ring_core.proofs.FirstValues.{length-first_values, values_pushed, values_same, at-first_values}
 use Rattle.linear_algebra.specs.Linear.{are_rows}
-use Rattle.fq_linear.proofs.Places.{range_place, elems_by_places, elem_as}
+use Rattle.ring_core.proofs.Written.{elems_by_places}
+use Rattle.fq_linear.proofs.Places.{range_place, elem_as}
 
 -- a row ends within the cells
 pub row_end : (w n i : ℕ) → i < n → i * w + w ≤ n * w

@@ -1,11 +1,13 @@
 //! Rows of field elements in slices.
 
-ghost use Rattle.std.specs.Prelude.{◌≡◌, ◌+◌, ◌<◌, ◌≤◌, ℕ, ◌↔◌, true, length, replicate, IfOk, MatchOption, IsTrue, slice_index_or};
+ghost use Rattle.std.specs.Prelude.{◌≡◌, ◌+◌, ◌<◌, ◌≤◌, ℕ, true, length, replicate, IfOk, MatchOption, slice_index_or};
 ghost use Rattle.ring_core.specs.Ring.{IsElem};
-ghost use Rattle.ring_core.specs.Coeffs.{coeff, are_elems, first_values};
-ghost use Rattle.fq_linear.specs.steps.Places.{IsWritten, IsHighestPlace, IsMonicMultiple, cleared, unit_row};
+ghost use Rattle.ring_core.specs.Coeffs.{coeff, are_elems};
+ghost use Rattle.ring_core.specs.Written.{IsWritten};
+ghost use Rattle.fq_linear.specs.steps.Places.{IsHighestPlace, IsMonicMultiple, cleared, unit_row};
 
 use ring_core::lists::coeff_at;
+use ring_core::rows::add_scaled;
 use ring_core::{E, Field, NoMemory};
 use std::alloc::Global;
 
@@ -20,24 +22,8 @@ pub(super) fn filled<T: Copy>(alloc: Global, n: usize, value: T) -> Result<Vec<T
     Ok(list)
 }
 
-/// Adds `c` times `row` to the cells from `at` on.
-pub(super) fn add_multiple<F: Field>(f: &F, cells: &mut [E<F>], at: usize, c: E<F>, row: &[E<F>])
-    requires cells { are_elems (F.ops f.now) cells.old ≡ true }
-    requires factor { IsElem (F.ops f.now) c }
-    requires row { are_elems (F.ops f.now) row.now ≡ true }
-    requires within { at + length row.now ≤ length cells.old }
-    ensures len { length cells.new ≡ length cells.old }
-    ensures elems { are_elems (F.ops f.now) cells.new ≡ true }
-    ensures written { let r = F.ops f.now in IsWritten r.zero at (length row.now) (λ k. r.add (coeff r cells.old (at + k)) (r.mul c (coeff r row.now k))) cells.old cells.new }
-{
-    for k in 0..row.len() {
-        let part = f.mul(c, coeff_at(f, row, k));
-        cells[at + k] = f.add(coeff_at(f, cells, at + k), part);
-    }
-}
-
-/// Clears place `at + l` of the cells by `row`, which has one at `l` and zero above. Where the place is zero
-/// already, nothing is done; else only the places from `at` to `at + l` are touched.
+/// Clears place `at + l` of the cells by `row`, which has one at `l` and zero above. Only the places from
+/// `at` to `at + l` are touched, and none where the place is zero already.
 pub(super) fn clear_at<F: Field>(f: &F, cells: &mut [E<F>], at: usize, l: usize, row: &[E<F>])
     requires cells { are_elems (F.ops f.now) cells.old ≡ true }
     requires row { are_elems (F.ops f.now) row.now ≡ true }
@@ -49,9 +35,7 @@ pub(super) fn clear_at<F: Field>(f: &F, cells: &mut [E<F>], at: usize, l: usize,
     ensures written { let r = F.ops f.now in IsWritten r.zero at (length row.now) (cleared r l (coeff r row.now) (λ k. coeff r cells.old (at + k))) cells.old cells.new }
 {
     let c = coeff_at(f, cells, at + l);
-    if !f.equal(c, f.zero()) {
-        add_multiple(f, cells, at, f.neg(c), &row[..l + 1]);
-    }
+    add_scaled(f, cells, at, f.neg(c), &row[..l + 1]);
 }
 
 /// The highest place that is not zero.
@@ -129,29 +113,4 @@ pub(super) fn write_unit<F: Field>(f: &F, n: usize, i: usize, row: &mut [E<F>])
     for k in 0..n {
         row[k] = unit_at(f, i, k);
     }
-}
-
-/// Whether all places from `n` on are zero.
-pub(super) fn is_zero_from<F: Field>(f: &F, n: usize, row: &[E<F>]) -> bool
-    requires { are_elems (F.ops f.now) row.now ≡ true }
-    ensures { let r = F.ops f.now in IsTrue result ↔ ((k : ℕ) → n ≤ k → coeff r row.now k ≡ r.zero) }
-{
-    for k in n..row.len() {
-        if !f.equal(coeff_at(f, row, k), f.zero()) {
-            return false;
-        }
-    }
-    true
-}
-
-/// The negatives of the members of the row.
-pub(super) fn negatives<F: Field>(alloc: Global, f: &F, row: &[E<F>]) -> Result<Vec<E<F>>, NoMemory>
-    requires { are_elems (F.ops f.now) row.now ≡ true }
-    ensures { let r = F.ops f.now in IfOk result (λ v. v.items ≡ first_values (length row.now) (λ k. r.neg (coeff r row.now k))) }
-{
-    let mut list = Vec::with_capacity(alloc, row.len())?;
-    for k in 0..row.len() {
-        list.push(f.neg(coeff_at(f, row, k)))?;
-    }
-    Ok(list)
 }

@@ -12,6 +12,7 @@ ghost use Rattle.fq_linear.specs.steps.Elimination.{row_number, is_lead, slot, I
 
 use super::cells::{clear_at, filled, make_monic, top_place, write_at, write_unit};
 use super::rows::Rows;
+use ring_core::rows::zero_list;
 use ring_core::{E, Field, NoMemory};
 use std::alloc::Global;
 
@@ -172,9 +173,9 @@ pub(super) fn eliminate<F: Field>(
     let Some(size) = n.checked_mul(w) else {
         return Err(NoMemory);
     };
-    let mut cells = filled(alloc, size, f.zero())?;
+    let mut cells = zero_list(alloc, f, size)?;
     let mut index = filled(alloc, w, None)?;
-    let mut row = filled(alloc, w, f.zero())?;
+    let mut row = zero_list(alloc, f, w)?;
     insert_all(
         f,
         n,

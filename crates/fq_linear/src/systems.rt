@@ -5,10 +5,12 @@ ghost use Rattle.ring_core.specs.Coeffs.{coeff, are_elems};
 ghost use Rattle.linear_algebra.specs.Linear.{are_rows, is_row, IsCombination, IsRelation, IsIndependent, IsEchelonBasis, IsOnlySolution, IsFirstDependence};
 ghost use Rattle.fq_linear.specs.steps.Elimination.{is_lead, IsReducedTable, IsReducedTarget, IsFirstLead};
 
-use super::cells::{filled, is_zero_from, negatives, write_at};
+use super::cells::write_at;
 use super::eliminate::{eliminate, reduce_row};
 use super::gather::gather;
 use super::rows::Rows;
+use ring_core::lists::neg_values;
+use ring_core::rows::{is_zero_from, zero_list};
 use ring_core::{E, Field, NoMemory};
 use std::alloc::Global;
 
@@ -78,11 +80,11 @@ pub fn solve<F: Field>(
 {
     let n = rows.len();
     let table = eliminate(alloc, f, n, rows)?;
-    let mut row = filled(alloc, table.index.len(), f.zero())?;
+    let mut row = zero_list(alloc, f, table.index.len())?;
     if !reduce_target(f, n, &table.index, &table.cells, target, &mut row) {
         return Ok(None);
     }
-    let solution = negatives(alloc, f, &row[..n])?;
+    let solution = neg_values(alloc, f, &row[..n])?;
     Ok(Some(solution))
 }
 
@@ -116,6 +118,6 @@ pub fn first_dependence<F: Field>(
     let Some((k, i)) = first_lead(rows.len(), &table.index) else {
         return Ok(None);
     };
-    let coefficients = negatives(alloc, f, &table.cells[i * w..i * w + k])?;
+    let coefficients = neg_values(alloc, f, &table.cells[i * w..i * w + k])?;
     Ok(Some((k, coefficients)))
 }

@@ -1,12 +1,7 @@
 -- What the functions over slices do, place by place.
-use Rattle.std.specs.Prelude.{◌≡◌, ◌≢◌, ℕ, ◌+◌, ◌<◌, ◌≤◌, ◌⊎◌, List, length, cond, nat_eq, slice_index_or}
+use Rattle.std.specs.Prelude.{◌≡◌, ◌≢◌, ℕ, ◌<◌, List, length, cond, nat_eq}
 use Rattle.ring_core.specs.Ring.{RingOps, IsElem}
 use Rattle.ring_core.specs.Coeffs.{coeff}
-
--- `f 0` to `f (n - 1)` were written over the cells from `at` on.
-pub record IsWritten {E : Type 0} (d : E) (at n : ℕ) (f : ℕ → E) (before after : List E) : Type 0 where
-  pub inside : (k : ℕ) → k < n → slice_index_or after (at + k) d ≡ f k
-  pub outside : (i : ℕ) → (i < at) ⊎ (at + n ≤ i) → slice_index_or after i d ≡ slice_index_or before i d
 
 -- `l` is the highest place of the row that is not zero.
 pub record IsHighestPlace {E : Type 0} (r : RingOps E) (row : List E) (l : ℕ) : Type 0 where

@@ -1,6 +1,6 @@
 use Rattle.std.proofs.Common.{◌≡◌, true, length}
 use Rattle.ring_core.specs.Coeffs.{coeff, are_elems}
-use Rattle.fq_linear.specs.steps.Places.{IsWritten}
+use Rattle.ring_core.specs.Written.{IsWritten}
 use Rattle.fq_linear.proofs.cells.scale_first.Given as goal
 
 abbrev pub invariant-loop-k : goal.invariant-loop-k

@@ -1,15 +1,14 @@
 use Rattle.std.proofs.Common.{◌-◌, inl, inr, sym, ◌∙◌, ap, arith}
 use Rattle.ring_core.specs.Coeffs.{coeff}
 use Rattle.linear_algebra.proofs.Sums.{same_or_other}
-use Rattle.fq_linear.proofs.Places.{same_tells, elem_as}
+use Rattle.fq_linear.proofs.Places.{same_tells}
 use Rattle.fq_linear.proofs.cells.top_place.Goals as goal
 
 pub loop-l-preserved : goal.loop-l-preserved
 loop-l-preserved g c =
     let r = g.F.Field.ops c.args.f.now in
     let ring = (g.met.F.Field.laws c.args.f.now).ring in
-    let none = elem_as r _ _ c.zero.ensures ring.closed.zero_in in
-    let here = sym c.coeff_at.ensures.value ∙ same_tells r ring _ _ _ c.coeff_at.ensures.elem none c.equal.ensures c.if-not-equal.false ∙ c.zero.ensures in
+    let here = sym c.coeff_at.ensures.value ∙ same_tells r ring _ _ _ c.coeff_at.ensures.elem c.zero.ensures.elem c.equal.ensures c.if-not-equal.false ∙ c.zero.ensures.value in
     λ k b. elim (same_or_other k (c.loop-l.l - 1)) [
       | inl e ↦ ap (coeff r c.args.row.now) e ∙ here
       | inr d ↦ c.loop-l.invariant k (omega arith)

@@ -1,7 +1,7 @@
 use Rattle.std.proofs.Common.{◌≡◌, ◌+◌, ◌<◌, length, get_or, refl, ◌∙◌, subst, arith, length-set}
 use Rattle.std.proofs.lemmas.List.{get_or_read}
-use Rattle.fq_linear.specs.steps.Places.{IsWritten}
-use Rattle.fq_linear.proofs.Places.{written_more}
+use Rattle.ring_core.specs.Written.{IsWritten}
+use Rattle.ring_core.proofs.Written.{written_more}
 use Rattle.fq_linear.proofs.cells.write_at.Goals as goal
 
 pub loop-k-preserved : goal.loop-k-preserved

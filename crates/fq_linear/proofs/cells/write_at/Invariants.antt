@@ -1,5 +1,5 @@
 use Rattle.std.proofs.Common.{◌≡◌, length, get_or}
-use Rattle.fq_linear.specs.steps.Places.{IsWritten}
+use Rattle.ring_core.specs.Written.{IsWritten}
 use Rattle.fq_linear.proofs.cells.write_at.Given as goal
 
 abbrev pub invariant-loop-k : goal.invariant-loop-k

@@ -1,6 +1,6 @@
 use Rattle.std.proofs.Common.{◌<◌, length, sym, ◌∙◌, arith, length-set, zero-add}
 use Rattle.ring_core.proofs.Coefficients.{elems_set}
-use Rattle.fq_linear.proofs.Places.{written_more}
+use Rattle.ring_core.proofs.Written.{written_more}
 use Rattle.fq_linear.proofs.cells.write_unit.Goals as goal
 
 pub loop-k-preserved : goal.loop-k-preserved

@@ -1,6 +1,7 @@
 use Rattle.std.proofs.Common.{◌≡◌, true, length}
 use Rattle.ring_core.specs.Coeffs.{are_elems}
-use Rattle.fq_linear.specs.steps.Places.{IsWritten, unit_row}
+use Rattle.ring_core.specs.Written.{IsWritten}
+use Rattle.fq_linear.specs.steps.Places.{unit_row}
 use Rattle.fq_linear.proofs.cells.write_unit.Given as goal
 
 abbrev pub invariant-loop-k : goal.invariant-loop-k

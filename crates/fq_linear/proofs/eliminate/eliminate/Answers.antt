@@ -1,9 +1,9 @@
-use Rattle.std.proofs.Common.{◌≡◌, ◌+◌, length, sym, ◌∙◌, ap, subst₂, take_at, arith}
+use Rattle.std.proofs.Common.{◌≡◌, ◌+◌, ◌*◌, length, sym, ◌∙◌, ap, subst₂, take_at, arith}
 use Rattle.ring_core.specs.Coeffs.{coeff, are_elems}
+use Rattle.ring_core.proofs.FirstValues.{length-first_values}
 use Rattle.linear_algebra.specs.Linear.{entry, are_rows}
 use Rattle.fq_linear.specs.Table.{row_cells}
 use Rattle.fq_linear.specs.steps.Elimination.{IsEliminated, augmented}
-use Rattle.fq_linear.proofs.Places.{elem_as, elems_replicate}
 use Rattle.fq_linear.proofs.Tables.{elems_of_rows}
 use Rattle.fq_linear.proofs.Steps.{eliminated_rows}
 use Rattle.fq_linear.proofs.eliminate.eliminate.Goals as goal
@@ -16,16 +16,20 @@ insert_all-requires-clause-source g c =
     elems_of_rows r rows.width (length rows.rows) c.cells.result.now z (ap (are_rows r rows.width) c.cells.ensures.rows ∙ c.requires) c.cells.ensures.len
 
 pub insert_all-requires-clause-cells : goal.insert_all-requires-clause-cells
-insert_all-requires-clause-cells g c =
-    let r = g.F.Field.ops c.args.f.now in
-    let z = (g.met.F.Field.laws c.args.f.now).ring.closed.zero_in in
-    ap (are_elems r) (c.deref_mut-2.ensures.value ∙ c.in_ok-cells.ensures) ∙ elems_replicate r _ _ (elem_as r _ _ c.zero.ensures z)
+insert_all-requires-clause-cells g c = ap (are_elems (g.F.Field.ops c.args.f.now)) c.deref_mut-2.ensures.value ∙ c.in_ok-cells.ensures.elems
 
 pub insert_all-requires-clause-row : goal.insert_all-requires-clause-row
-insert_all-requires-clause-row g c =
-    let r = g.F.Field.ops c.args.f.now in
-    let z = (g.met.F.Field.laws c.args.f.now).ring.closed.zero_in in
-    ap (are_elems r) (c.deref_mut-3.ensures.value ∙ c.in_ok-row.ensures) ∙ elems_replicate r _ _ (elem_as r _ _ c.zero-2.ensures z)
+insert_all-requires-clause-row g c = ap (are_elems (g.F.Field.ops c.args.f.now)) c.deref_mut-3.ensures.value ∙ c.in_ok-row.ensures.elems
+
+pub insert_all-requires-clause-cells_len : goal.insert_all-requires-clause-cells_len
+insert_all-requires-clause-cells_len g c =
+    ap length (c.deref_mut-2.ensures.value ∙ c.in_ok-cells.ensures.value) ∙ length-first_values c.in-Some-checked_mul.size _ ∙ c.in-Some-checked_mul.ensures.1
+    ∙ ap (λ k. c.len-n.result * k) (c.in-Some.ensures.1 ∙ ap (λ k. c.args.offset + k) (c.width.ensures ∙ sym c.width-2.ensures))
+
+pub insert_all-requires-clause-row_len : goal.insert_all-requires-clause-row_len
+insert_all-requires-clause-row_len g c =
+    ap length (c.deref_mut-3.ensures.value ∙ c.in_ok-row.ensures.value) ∙ length-first_values c.in-Some.w _ ∙ c.in-Some.ensures.1
+    ∙ ap (λ k. c.args.offset + k) (c.width.ensures ∙ sym c.width-2.ensures)
 
 pub returns : goal.returns
 returns g c =

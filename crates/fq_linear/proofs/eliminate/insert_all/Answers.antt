@@ -3,7 +3,8 @@ use Rattle.ring_core.specs.Coeffs.{coeff}
 use Rattle.ring_core.proofs.Coefficients.{elem_read}
 use Rattle.fq_linear.specs.Table.{row_cells}
 use Rattle.fq_linear.specs.steps.Elimination.{slot, IsReducedTable, IsInserted, IsEliminated, augmented}
-use Rattle.fq_linear.proofs.Places.{elems_range, elems_written}
+use Rattle.ring_core.proofs.Written.{elems_written}
+use Rattle.fq_linear.proofs.Places.{elems_range}
 use Rattle.fq_linear.proofs.Tables.{length-row_cells}
 use Rattle.fq_linear.proofs.Slots.{none_is_not, loaded, augmented_in}
 use Rattle.fq_linear.proofs.Steps.{eliminated_none, eliminated_more}

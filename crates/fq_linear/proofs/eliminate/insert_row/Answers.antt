@@ -2,7 +2,7 @@ use Rattle.std.proofs.Common.{length, ◌∙◌, subst, arith}
 use Rattle.ring_core.specs.Coeffs.{coeff}
 use Rattle.ring_core.proofs.Coefficients.{elem_read}
 use Rattle.fq_linear.specs.steps.Elimination.{slot, IsInserted}
-use Rattle.fq_linear.proofs.Places.{times_zero}
+use Rattle.ring_core.proofs.Terms.{times_zero}
 use Rattle.fq_linear.proofs.Slots.{when_none, slot_in}
 use Rattle.fq_linear.proofs.Joined.{inserted_from, inserted_nothing}
 use Rattle.fq_linear.proofs.eliminate.insert_row.Goals as goal

@@ -2,7 +2,7 @@ use Rattle.std.proofs.Common.{ℕ, ◌+◌, ◌*◌, ◌<◌, ◌≤◌, Some, l
 use Rattle.ring_core.specs.Coeffs.{coeff}
 use Rattle.ring_core.proofs.Coefficients.{elem_read}
 use Rattle.fq_linear.specs.steps.Elimination.{is_lead, slot, HasRowsWithin}
-use Rattle.fq_linear.proofs.Places.{elems_written}
+use Rattle.ring_core.proofs.Written.{elems_written}
 use Rattle.fq_linear.proofs.Slots.{slot_in, below_joined, stored_joined}
 use Rattle.fq_linear.proofs.Joined.{joined_to, joined_reduced, joined_inserted}
 use Rattle.fq_linear.proofs.eliminate.keep_row.Goals as goal

@@ -19,8 +19,8 @@ returns-in_default g c =
     independent r (g.F.Field.inv_of f) (g.met.F.Field.laws f) rows.width rows.rows index cells c.requires t
     (λ j l. ap (λ x. is_lead x j) (sym c.deref.ensures.value) ∙ none j (omega (arith, l, c.len-2.ensures)))
 
-pub negatives-requires : goal.negatives-requires
-negatives-requires g c =
+pub neg_values-requires : goal.neg_values-requires
+neg_values-requires g c =
     let r = g.F.Field.ops c.args.f.now in
     elems_range r (g.met.F.Field.laws c.args.f.now).ring c.deref-2.result.now (c.in-Some.i * c.len-w.result) (c.in-Some.i * c.len-w.result + c.in-Some.k)
     (ap (are_elems r) c.deref-2.ensures.value ∙ c.in_ok-table.ensures.table.elems)
@@ -42,6 +42,6 @@ returns g c =
     let wide : c.len-w.result ≡ n + rows.width = omega (arith, c.len-w.ensures, c.deref.ensures.len, ap length c.deref.ensures.value, t.table.index_len) in
     let same = ap₂ (λ u w. slice_range u (i * w) (i * w + k)) c.deref-2.ensures.value wide in
     let values = ap (λ u. first_values (length u) (λ m. r.neg (coeff r u m))) same in
-    subst (IsFirstDependence r rows.rows k) (sym (c.in_ok-coefficients.ensures ∙ values))
+    subst (IsFirstDependence r rows.rows k) (sym (c.in_ok-coefficients.ensures.value ∙ values))
     (first_dependence_from r (g.F.Field.inv_of f) (g.met.F.Field.laws f) rows.width rows.rows index cells c.requires t k i within found
     (λ j l. ap (λ x. is_lead x j) (sym c.deref.ensures.value) ∙ first.least j l))

@@ -4,7 +4,7 @@ use Rattle.ring_core.proofs.Coefficients.{elem_read}
 use Rattle.linear_algebra.specs.Combines.{Combines, minus}
 use Rattle.linear_algebra.proofs.Lift.{combines_as}
 use Rattle.fq_linear.specs.steps.Elimination.{slot}
-use Rattle.fq_linear.proofs.Places.{elems_written}
+use Rattle.ring_core.proofs.Written.{elems_written}
 use Rattle.fq_linear.proofs.Slots.{target_loaded}
 use Rattle.fq_linear.proofs.systems.reduce_target.Goals as goal
 

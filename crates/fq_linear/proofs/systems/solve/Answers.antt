@@ -1,19 +1,55 @@
-use Rattle.std.proofs.Common.{◌≡◌, ◌+◌, ◌≤◌, length, take, sym, ◌∙◌, ap, subst, take_at, get_or-take, arith}
-use Rattle.std.proofs.lemmas.List.{length-take-le, length-replicate}
+use Rattle.std.proofs.Common.{◌≡◌, ◌+◌, ◌≤◌, length, take, sym, refl, ◌∙◌, ap, subst, subst₂, take_at, get_or-take, arith}
+use Rattle.std.proofs.lemmas.List.{length-take-le}
 use Rattle.ring_core.specs.Coeffs.{coeff, are_elems}
-use Rattle.ring_core.proofs.Coefficients.{elems_take}
+use Rattle.ring_core.proofs.Coefficients.{coeff-first_values, elems_take}
+use Rattle.ring_core.proofs.FirstValues.{length-first_values}
 use Rattle.linear_algebra.specs.Linear.{entry, IsSolution}
-use Rattle.fq_linear.specs.steps.Elimination.{IsEliminated, augmented}
-use Rattle.fq_linear.proofs.Places.{elem_as, elems_replicate}
+use Rattle.linear_algebra.proofs.RowLists.{row_len}
+use Rattle.fq_linear.specs.steps.Elimination.{IsEliminated, IsReducedTable, augmented}
 use Rattle.fq_linear.proofs.Results.{solved, unsolved, reduced_as, not_both}
 use Rattle.fq_linear.proofs.Solutions.{same_solution}
 use Rattle.fq_linear.proofs.systems.solve.Goals as goal
 
 pub reduce_target-requires-clause-row : goal.reduce_target-requires-clause-row
-reduce_target-requires-clause-row g c =
+reduce_target-requires-clause-row g c = ap (are_elems (g.F.Field.ops c.args.f.now)) c.deref_mut.ensures.value ∙ c.in_ok-row.ensures.elems
+
+pub reduce_target-requires-clause-zero : goal.reduce_target-requires-clause-zero
+reduce_target-requires-clause-zero g c k =
     let r = g.F.Field.ops c.args.f.now in
-    let z = (g.met.F.Field.laws c.args.f.now).ring.closed.zero_in in
-    ap (are_elems r) (c.deref_mut.ensures.value ∙ c.in_ok-row.ensures) ∙ elems_replicate r _ _ (elem_as r _ _ c.zero.ensures z)
+    ap (λ u. coeff r u k) (c.deref_mut.ensures.value ∙ c.in_ok-row.ensures.value) ∙ coeff-first_values r c.len.result (λ i. r.zero) (λ i l. refl) k
+
+pub reduce_target-requires-clause-row_len : goal.reduce_target-requires-clause-row_len
+reduce_target-requires-clause-row_len g c =
+    let r = g.F.Field.ops c.args.f.now in
+    let rows = c.args.rows.now in
+    let zeros = length-first_values c.len.result (λ i. r.zero) in
+    omega (
+      arith,
+      ap length (c.deref_mut.ensures.value ∙ c.in_ok-row.ensures.value),
+      zeros,
+      c.len.ensures,
+      c.deref.ensures.len,
+      ap length c.deref.ensures.value,
+      c.in_ok-table.ensures.table.index_len,
+      row_len r rows.width c.args.target.now c.requires.target,
+    )
+
+pub reduce_target-requires-clause-table : goal.reduce_target-requires-clause-table
+reduce_target-requires-clause-table g c =
+    let r = g.F.Field.ops c.args.f.now in
+    let table = c.in_ok-table.ensures.table in
+    let wide : length c.deref_mut.result.now ≡ c.len-n.result + c.args.rows.now.width =
+    omega (
+      arith,
+      ap length (c.deref_mut.ensures.value ∙ c.in_ok-row.ensures.value),
+      length-first_values c.len.result (λ i. r.zero),
+      c.len.ensures,
+      c.deref.ensures.len,
+      ap length c.deref.ensures.value,
+      table.index_len,
+    ) in
+    subst (λ m. IsReducedTable r m c.deref.result.now c.deref-2.result.now) (sym wide)
+    (subst₂ (IsReducedTable r (c.len-n.result + c.args.rows.now.width)) (sym c.deref.ensures.value) (sym c.deref-2.ensures.value) table)
 
 pub returns-then-not-reduce_target : goal.returns-then-not-reduce_target
 returns-then-not-reduce_target g c =
@@ -25,13 +61,32 @@ returns-then-not-reduce_target g c =
     let cells = c.in_ok-table.table.cells.items in
     let t = subst (λ m. IsEliminated r (m + rows.width) n (augmented r m (entry r rows.rows)) index cells) c.len-n.ensures c.in_ok-table.ensures in
     let wide : length c.deref_mut.result.now ≡ n + rows.width =
-    omega (arith, ap length (c.deref_mut.ensures.value ∙ c.in_ok-row.ensures), length-replicate c.len.result c.zero.result, c.len.ensures, c.deref.ensures.len, ap length c.deref.ensures.value, t.table.index_len) in
+    omega (arith, ap length (c.deref_mut.ensures.value ∙ c.in_ok-row.ensures.value), length-first_values c.len.result (λ i. r.zero), c.len.ensures, c.deref.ensures.len, ap length c.deref.ensures.value, t.table.index_len) in
     let d = reduced_as r n _ (n + rows.width) _ index _ cells _ c.args.target.now c.reduce_target.new.row c.len-n.ensures wide c.deref.ensures.value c.deref-2.ensures.value c.reduce_target.ensures.reduced in
     unsolved r (g.F.Field.inv_of f) (g.met.F.Field.laws f) rows.width rows.rows index cells c.requires.rows t c.args.target.now c.reduce_target.new.row c.requires.target d
     (λ all. not_both (c.reduce_target.ensures.left.1 (λ k l. all k (omega (arith, l, c.len-n.ensures)))) c.if-not-reduce_target.true)
 
-pub negatives-requires : goal.negatives-requires
-negatives-requires g c =
+pub slice_bounds-neg_values-end : goal.slice_bounds-neg_values-end
+slice_bounds-neg_values-end g c =
+    let r = g.F.Field.ops c.args.f.now in
+    let d = c.reduce_target.ensures.reduced in
+    let same : length c.reduce_target.new.row ≡ c.in_ok-row.row.len = omega (arith, d.len, c.deref_mut.ensures.len) in
+    let short : c.len-n.result ≤ length c.deref-3.result.now =
+    omega (
+      arith,
+      ap length (c.deref-3.ensures.value ∙ take_at c.reduce_target.new.row _ _ same),
+      d.len,
+      ap length (c.deref_mut.ensures.value ∙ c.in_ok-row.ensures.value),
+      length-first_values c.len.result (λ i. r.zero),
+      c.len.ensures,
+      c.deref.ensures.len,
+      ap length c.deref.ensures.value,
+      c.in_ok-table.ensures.table.index_len,
+    ) in
+    sym (length-take-le c.len-n.result c.deref-3.result.now short)
+
+pub neg_values-requires : goal.neg_values-requires
+neg_values-requires g c =
     let r = g.F.Field.ops c.args.f.now in
     let d = c.reduce_target.ensures.reduced in
     let same : length c.reduce_target.new.row ≡ c.in_ok-row.row.len = omega (arith, d.len, c.deref_mut.ensures.len) in
@@ -51,7 +106,7 @@ returns g c =
     let cells = c.in_ok-table.table.cells.items in
     let t = subst (λ m. IsEliminated r (m + rows.width) n (augmented r m (entry r rows.rows)) index cells) c.len-n.ensures c.in_ok-table.ensures in
     let wide : length c.deref_mut.result.now ≡ n + rows.width =
-    omega (arith, ap length (c.deref_mut.ensures.value ∙ c.in_ok-row.ensures), length-replicate c.len.result c.zero.result, c.len.ensures, c.deref.ensures.len, ap length c.deref.ensures.value, t.table.index_len) in
+    omega (arith, ap length (c.deref_mut.ensures.value ∙ c.in_ok-row.ensures.value), length-first_values c.len.result (λ i. r.zero), c.len.ensures, c.deref.ensures.len, ap length c.deref.ensures.value, t.table.index_len) in
     let d = reduced_as r n _ (n + rows.width) _ index _ cells _ target row c.len-n.ensures wide c.deref.ensures.value c.deref-2.ensures.value c.reduce_target.ensures.reduced in
     let same : length row ≡ c.in_ok-row.row.len = omega (arith, c.reduce_target.ensures.reduced.len, c.deref_mut.ensures.len) in
     let read = c.deref-3.ensures.value ∙ take_at row _ _ same in
@@ -62,7 +117,7 @@ returns g c =
     let found = solved r inv field rows.width rows.rows index cells c.requires.rows t target row c.requires.target d
     (λ k l. c.reduce_target.ensures.left.0 c.if-not-reduce_target.false k (omega (arith, l, c.len-n.ensures))) u len elems
     (λ i l. get_or-take c.len-n.result c.deref-3.result.now i r.zero (omega (arith, l, c.len-n.ensures)) ∙ ap (λ x. coeff r x i) read) in
-    let solves = subst (IsSolution r rows.rows target) (sym c.in_ok-solution.ensures) found in
+    let solves = subst (IsSolution r rows.rows target) (sym c.in_ok-solution.ensures.value) found in
     record {
       solves = solves;
       only = λ x s. same_solution r inv field rows.width rows.rows c.requires.rows target x _ s solves;
