@@ -10,7 +10,7 @@ trimmed-requires g c =
     let closed = (g.met.F.Field.laws c.args.f.now).ring.closed in
     let row = c.in_ok-row.row.items in
     let pushed : c.push.new.self.items ≡ row ++ c.one.result ∷ [] = c.in_ok-push.ensures.items in
-    ap (are_elems r) pushed ∙ elems_push r row c.one.result c.in_ok-row.ensures.elems (ap r.is_elem c.one.ensures ∙ closed.one_in)
+    ap (are_elems r) pushed ∙ elems_push r row c.one.result c.in_ok-row.ensures.elems (ap r.is_elem c.one.ensures.value ∙ closed.one_in)
 
 pub returns-clause-unit : goal.returns-clause-unit
 returns-clause-unit g c =
@@ -19,8 +19,8 @@ returns-clause-unit g c =
     let closed = ring.closed in
     let row = c.in_ok-row.row.items in
     let pushed : c.push.new.self.items ≡ row ++ c.one.result ∷ [] = c.in_ok-push.ensures.items in
-    let elems = ap (are_elems r) pushed ∙ elems_push r row c.one.result c.in_ok-row.ensures.elems (ap r.is_elem c.one.ensures ∙ closed.one_in) in
+    let elems = ap (are_elems r) pushed ∙ elems_push r row c.one.result c.in_ok-row.ensures.elems (ap r.is_elem c.one.ensures.value ∙ closed.one_in) in
     λ t.
     ap (λ u. coeff r u t) c.trimmed.ensures.value ∙ coeff-trim r closed.zero_in ring.equal c.push.new.self.items elems t
-    ∙ ap (λ u. coeff r u t) (pushed ∙ ap (λ x. row ++ x ∷ []) c.one.ensures ∙ ap (λ u. u ++ r.one ∷ []) c.in_ok-row.ensures.value)
+    ∙ ap (λ u. coeff r u t) (pushed ∙ ap (λ x. row ++ x ∷ []) c.one.ensures.value ∙ ap (λ u. u ++ r.one ∷ []) c.in_ok-row.ensures.value)
     ∙ zeros_one r c.args.i t

@@ -15,7 +15,7 @@ loop-i-preserved g c =
     let count = ap length pushed in
     let one_more = length_push items c.zero.result in
     record {
-      elems = ap (are_elems r) pushed ∙ elems_push r items c.zero.result before.elems (ap r.is_elem c.zero.ensures ∙ ring.closed.zero_in);
+      elems = ap (are_elems r) pushed ∙ elems_push r items c.zero.result before.elems (ap r.is_elem c.zero.ensures.value ∙ ring.closed.zero_in);
       len = omega (arith, count, one_more, before.len);
-      same = λ t. ap (λ u. coeff r u t) (pushed ∙ ap (λ x. items ++ x ∷ []) c.zero.ensures) ∙ coeff_push_zero r items t ∙ before.same t;
+      same = λ t. ap (λ u. coeff r u t) (pushed ∙ ap (λ x. items ++ x ∷ []) c.zero.ensures.value) ∙ coeff_push_zero r items t ∙ before.same t;
     }
