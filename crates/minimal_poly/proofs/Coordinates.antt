@@ -7,7 +7,7 @@ use Rattle.ring_core.specs.Coeffs.{coeff, are_elems, first_values}
 use Rattle.ring_core.proofs.Carrier.{RingOn, Element, same_element, elements, add_zero, zero_mul, mul_zero, neg_add, zero_only}
 use Rattle.ring_core.proofs.Coefficients.{coeff_past, elem_read, elems-first_values}
 use Rattle.ring_core.proofs.FirstValues.{length-first_values, at-first_values}
-use Rattle.ring_core.proofs.Twist.{square_only}
+use Rattle.ring_core.proofs.Twist.{embed_one}
 use Rattle.ring_core.proofs.Series.{total}
 use Rattle.linear_algebra.proofs.Sums.{combine, total_same, total_zero, total_add, total_rest}
 use Rattle.linear_algebra.proofs.Augment.{Depends, zero_from}
@@ -125,17 +125,7 @@ module _ {E B : Type 0} (r : RingOps E) (inv : E → Option E) (base : RingOps B
   embedded-add a b = same_element r _ _ (l.embed_add a.0 b.0 a.1 b.1)
 
   embedded-one : embedded (elements kb.ring).one ≡ (elements k.ring).one
-  embedded-one =
-      let closed = kb.ring.closed in
-      let inside = l.embed_in base.one closed.one_in in
-      same_element r _ _
-      (square_only r inv base f k l (f.embed base.one) inside
-      (sym (l.embed_mul base.one base.one closed.one_in closed.one_in) ∙ ap f.embed (kb.ring.one_mul base.one closed.one_in))
-      (λ e.
-      kb.one_ne_zero
-      (l.embed_inj base.one base.zero closed.one_in closed.zero_in
-      (e ∙ sym (ap (λ x. x.0) (additive_zero (elements kb.ring) (elements k.ring) embedded embedded-add)))))
-      (inv (f.embed base.one)) (k.inv_is (f.embed base.one) inside))
+  embedded-one = same_element r _ _ (embed_one r inv base base_inv f k kb l)
 
   pub is_over : IsOver (elements kb.ring) (elements k.ring) embedded coords
   is_over = record {

@@ -7,7 +7,7 @@ use Rattle.std.proofs.Math.Seq.{get_or-append_seam}
 use Rattle.ring_core.specs.Ring.{RingOps, IsElem}
 use Rattle.ring_core.specs.Field.{IsField, FrobOps, IsFrobField}
 use Rattle.ring_core.specs.Coeffs.{coeff, trim, are_elems, is_trimmed, is_canonical, first_values}
-use Rattle.ring_core.specs.Powers.{power_of}
+use Rattle.ring_core.specs.Powers.{power_of, base_value}
 use Rattle.ring_core.specs.Twisted.{list_add, list_neg}
 use Rattle.ring_core.proofs.Carrier.{RingOn, Element, same_element, elements, minus_same}
 use Rattle.ring_core.proofs.Coefficients.{coeff_past, elems_push, elems-first_values, trim_found, trimmed-trim, same_coeffs}
@@ -24,7 +24,7 @@ use Rattle.linear_algebra.proofs.Lift.{combine_value, combined_rows, from_spans,
 use Rattle.linear_algebra.proofs.RowLists.{row_len, row_elems, rows_by_places}
 use Rattle.linear_algebra.proofs.Dependent.{rows_depend}
 use Rattle.fq_linear.proofs.Solutions.{inverse}
-use Rattle.minimal_poly.specs.MinPoly.{base_value, IsMinPoly}
+use Rattle.minimal_poly.specs.MinPoly.{IsMinPoly}
 use Rattle.minimal_poly.specs.steps.PowerRows.{power_row}
 use Rattle.minimal_poly.proofs.Coordinates.{weighted, relation_zero, all_zero, weighted_more, difference_zero, embedded, coords, coords_elems, is_over}
 

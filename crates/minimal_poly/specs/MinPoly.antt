@@ -1,12 +1,8 @@
 -- The polynomial of least degree over a base field that has a given root in a field over it.
 use Rattle.std.specs.Prelude.{◌≡◌, ◌≢◌, ◌-◌, ◌≤◌, List, [], length, true}
 use Rattle.ring_core.specs.Ring.{RingOps}
-use Rattle.ring_core.specs.Coeffs.{coeff, sum_below, is_canonical}
-use Rattle.ring_core.specs.Powers.{power_of}
-
--- The value at `x` of a polynomial `a` with coefficients in a base, which `embed` takes into the ring of `x`.
-abbrev pub base_value : {E B : Type 0} → RingOps E → RingOps B → (B → E) → List B → E → E
-base_value r base embed a x = sum_below r (length a) (λ i. r.mul (embed (coeff base a i)) (power_of r x i))
+use Rattle.ring_core.specs.Coeffs.{coeff, is_canonical}
+use Rattle.ring_core.specs.Powers.{base_value}
 
 -- `a` is monic and has the root `x`, and no polynomial with this root but zero has a lower degree: it has at
 -- least as many coefficients.

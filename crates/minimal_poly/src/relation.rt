@@ -9,7 +9,7 @@ ghost use Rattle.minimal_poly.specs.steps.PowerRows.{power_row};
 
 use fq_linear::{Rows, first_dependence};
 use fq_poly::Poly;
-use ring_core::lists::coeff_at;
+use ring_core::lists::neg_values;
 use ring_core::{B, E, Field, FrobField, NoMemory};
 use std::alloc::Global;
 
@@ -48,11 +48,7 @@ fn monic_relation<F: Field>(alloc: Global, f: &F, list: &[E<F>]) -> Result<Vec<E
     requires { are_elems (F.ops f.now) list.now ≡ true }
     ensures { let r = F.ops f.now in IfOk result (λ v. v.items ≡ first_values (length list.now) (λ i. r.neg (coeff r list.now i)) ++ r.one ∷ []) }
 {
-    let mut relation = Vec::new(alloc);
-    for i in 0..list.len() {
-        let negative = f.neg(coeff_at(f, list, i));
-        relation.push(negative)?;
-    }
+    let mut relation = neg_values(alloc, f, list)?;
     relation.push(f.one())?;
     Ok(relation)
 }

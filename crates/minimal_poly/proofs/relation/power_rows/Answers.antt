@@ -13,8 +13,8 @@ loop-i-init g c =
     record {
       width = c.new-rows.ensures.width ∙ c.degree-n.ensures;
       rows = c.new-rows.ensures.rows;
-      elem = ap r.is_elem c.one-power.ensures ∙ (g.met.K.Field.laws c.args.k.now).ring.closed.one_in;
-      power = c.one-power.ensures;
+      elem = c.one-power.ensures.elem;
+      power = c.one-power.ensures.value;
     }
 
 pub push-requires : goal.push-requires
@@ -40,8 +40,8 @@ loop-i-preserved g c =
           values_more (poly_ops base) i (power_row r f c.args.c) c.loop-i.rows.rows c.push.new.self.rows c.deref.result.now
           c.in_ok-push.ensures.rows before.rows
           (c.deref.ensures.value ∙ c.in_ok-row.ensures ∙ ap (λ y. first_values f.degree (f.coord y)) before.power);
-      elem = ap r.is_elem c.mul-power.ensures ∙ (g.met.K.Field.laws k).ring.closed.mul_in c.loop-i.power c.args.c before.elem c.requires;
-      power = c.mul-power.ensures ∙ ap (λ y. r.mul y c.args.c) before.power ∙ ap (power_of r c.args.c) next;
+      elem = c.mul-power.ensures.elem;
+      power = c.mul-power.ensures.value ∙ ap (λ y. r.mul y c.args.c) before.power ∙ ap (power_of r c.args.c) next;
     }
 
 pub returns-clause-rows : goal.returns-clause-rows
