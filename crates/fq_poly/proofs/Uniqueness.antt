@@ -6,11 +6,10 @@ use Rattle.ring_core.specs.Field.{IsField}
 use Rattle.ring_core.specs.Coeffs.{is_canonical}
 use Rattle.ring_core.specs.Twisted.{list_add, list_neg}
 use Rattle.ring_core.proofs.Carrier.{RingOn, Element, same_element, elements, add_cancel, minus_same, difference}
-use Rattle.ring_core.proofs.Degrees.{degrees_add, poly_no_divisors}
-use Rattle.ring_core.proofs.Twist.{no_twist}
 use Rattle.ring_core.proofs.ListRing.{length-add, length-neg, poly_ring}
 use Rattle.fq_poly.specs.Poly.{poly_mul, poly_ops}
-use Rattle.fq_poly.specs.Laws.{DegreesAdd, DivisionIsUnique}
+use Rattle.fq_poly.specs.Laws.{DivisionIsUnique}
+use Rattle.fq_poly.proofs.Tops.{degrees}
 
 module _ {E : Type 0} (r : RingOps E) where
   length-difference : (s t : List E) (n : ℕ) → length s < n → length t < n → length (list_add r t (list_neg r s)) < n
@@ -18,9 +17,6 @@ module _ {E : Type 0} (r : RingOps E) where
       omega (arith, length-neg r s, length-add r t (list_neg r s))
 
 module _ {E : Type 0} (r : RingOps E) (inv : E → Option E) (k : IsField r inv) where
-  pub degrees : DegreesAdd r
-  degrees = degrees_add r k.ring (λ c i. c) (no_twist r) (poly_no_divisors r inv k)
-
   abbrev ring : RingOn (Element (poly_ops r))
   ring = elements (poly_ring r k.ring k.one_ne_zero)
 
@@ -29,7 +25,7 @@ module _ {E : Type 0} (r : RingOps E) (inv : E → Option E) (k : IsField r inv)
   no_multiple b [] y cb cx e l = refl
   no_multiple [] (z ∷ zs) y cb cx e l = absurd (omega arith)
   no_multiple (w ∷ ws) (z ∷ zs) y cb cx e l =
-      let lengths : length (poly_mul r (z ∷ zs) (w ∷ ws)) + 1 ≡ length (z ∷ zs) + length (w ∷ ws) = degrees (z ∷ zs) (w ∷ ws) cx cb (λ q. cc) (λ q. cc) in
+      let lengths : length (poly_mul r (z ∷ zs) (w ∷ ws)) + 1 ≡ length (z ∷ zs) + length (w ∷ ws) = degrees r inv k (z ∷ zs) (w ∷ ws) cx cb (λ q. cc) (λ q. cc) in
       let same : length (poly_mul r (z ∷ zs) (w ∷ ws)) ≡ length y = ap length e in
       absurd (omega arith)
 

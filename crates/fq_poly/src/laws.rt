@@ -1,5 +1,5 @@
 //! Laws of polynomials over a field. Each function's contract is the law, and calls no operation.
-ghost use Rattle.fq_poly.specs.Laws.{DegreesAdd, DivisionIsUnique};
+ghost use Rattle.fq_poly.specs.Laws.{DegreesAdd, DivisionIsUnique, MonicIsUnique};
 
 use ring_core::Field;
 
@@ -12,4 +12,9 @@ pub fn degrees_add<F: Field>()
 /// than `b`.
 pub fn division_is_unique<F: Field>()
     ensures { (k : F) → DivisionIsUnique (F.ops k) }
+{}
+
+/// A polynomial has at most one multiple by a constant whose top coefficient is one.
+pub fn monic_is_unique<F: Field>()
+    ensures { (k : F) → MonicIsUnique (F.ops k) }
 {}

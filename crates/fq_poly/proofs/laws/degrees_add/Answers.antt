@@ -1,4 +1,4 @@
-use Rattle.fq_poly.proofs.Uniqueness.{degrees}
+use Rattle.fq_poly.proofs.Tops.{degrees}
 use Rattle.fq_poly.proofs.laws.degrees_add.Goals as goal
 
 pub returns : goal.returns

@@ -10,4 +10,4 @@ returns g c =
     let field = g.met.F.Field.laws c.args.field.now in
     let list = c.args.list.now in
     subst (IsMonicMultiple r list) (sym (c.trimmed.ensures.value ∙ ap (trim r) c.in_ok-products.ensures.value))
-    (monic_by_inverse r field.ring field.mul_comm field.one_ne_zero list c.args.inverse c.requires.list c.requires.nonzero c.requires.inverse_in c.requires.inverts)
+    (monic_by_inverse r _ field list c.args.inverse c.requires.list c.requires.inverse_in c.requires.inverts)
