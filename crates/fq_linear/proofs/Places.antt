@@ -13,11 +13,6 @@ use Rattle.linear_algebra.proofs.Sums.{by_bool}
 use Rattle.ring_core.specs.Field.{IsField}
 use Rattle.fq_linear.specs.steps.Places.{IsHighestPlace, IsMonicMultiple, cleared}
 
-module _ {E : Type 0} (r : RingOps E) where
-  pub elems_replicate : (n : ℕ) (x : E) → IsElem r x → are_elems r (replicate n x) ≡ true
-  elems_replicate zero x h = refl
-  elems_replicate (suc n) x h = and_from _ _ h (elems_replicate n x h)
-
 pub replicate_more : {T : Type 0} (n : ℕ) (x : T) → replicate n x ++ x ∷ [] ≡ replicate (n + 1) x
 replicate_more n x = replicate-append-replicate n 1 x
 
