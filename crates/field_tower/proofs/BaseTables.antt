@@ -7,22 +7,22 @@ use Rattle.std.proofs.lemmas.List.{get_or_read}
 use Rattle.ring_core.specs.Coeffs.{coeff, are_elems}
 use Rattle.residue_field.specs.declared.TheConstants.{WIDTH}
 use Rattle.field_tower.specs.declared.size.TheConstants.{CODES}
-use Rattle.residue_field.specs.Tables.{IsRow, IsTable}
+use Rattle.field_tower.specs.steps.Tables.{IsRow, IsTable}
 use Rattle.residue_field.specs.Prime.{is_listed, prime_ops}
 use Rattle.residue_field.proofs.Listed.{listed_large}
-use Rattle.field_tower.specs.Places.{IsModulus}
+use Rattle.field_tower.specs.steps.Places.{IsModulus}
 
 pub table_fits : (q : ℕ) (op : ℕ → ℕ → ℕ) (table : List ℕ) (a b : ℕ) → IsTable q op table → a < q → b < q → a * q + b < length table
-table_fits q op table a b t l m = subst (λ n. a * q + b < n) (sym t.0) (mul-add-lt a q b q l m)
+table_fits q op table a b t l m = subst (λ n. a * q + b < n) (sym t.count) (mul-add-lt a q b q l m)
 
 pub table-value : (q : ℕ) (op : ℕ → ℕ → ℕ) (table : List ℕ) (a b x : ℕ) → IsTable q op table → a < q → b < q → x ≡ get_or table (a * q + b) x → x ≡ op a b
-table-value q op table a b x t l m e = get_or_read table (a * q + b) x (table_fits q op table a b t l m) e 0 ∙ t.1 a b l m
+table-value q op table a b x t l m e = get_or_read table (a * q + b) x (table_fits q op table a b t l m) e 0 ∙ t.value a b l m
 
 pub row_fits : (q : ℕ) (op : ℕ → ℕ) (row : List ℕ) (a : ℕ) → IsRow q op row → a < q → a < length row
-row_fits q op row a t l = subst (λ n. a < n) (sym t.0) l
+row_fits q op row a t l = subst (λ n. a < n) (sym t.count) l
 
 pub row-value : (q : ℕ) (op : ℕ → ℕ) (row : List ℕ) (a x : ℕ) → IsRow q op row → a < q → x ≡ get_or row a x → x ≡ op a
-row-value q op row a x t l e = get_or_read row a x (row_fits q op row a t l) e 0 ∙ t.1 a l
+row-value q op row a x t l e = get_or_read row a x (row_fits q op row a t l) e 0 ∙ t.value a l
 
 -- what is known of a modulus under one name, under the other
 pub moved : (F : ℕ → List ℕ → Type 0) (w u : List ℕ) (s : ℕ) → w ≡ u → length u ≡ s + 1 → F (length w - 2) w → F (s - 1) u

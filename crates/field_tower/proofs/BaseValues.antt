@@ -31,9 +31,9 @@ below_size k a e = ltb-true a (size_of k) (sym (elem-is k a) ∙ e)
 
 pub size_large : (k : Base) → 2 ≤ size_of k
 size_large k =
-    let large : 1 < k.p = listed_large k.p k.is_base.0 in
+    let large : 1 < k.p = listed_large k.p k.is_base.listed in
     let positive : 0 < k.p = omega arith in
-    let degree : 1 ≤ k.s = k.is_base.1 in
+    let degree : 1 ≤ k.s = k.is_base.positive in
     let bound : k.p ^ 1 ≤ size_of k = pow-le-pow_right positive degree in
     let one : k.p ^ 1 ≡ 1 * k.p = pow-suc k.p 0 ∙ ap (λ x. x * k.p) (pow-zero k.p) in
     omega arith

@@ -12,7 +12,7 @@ use Rattle.residue_field.specs.Digits.{digit, number}
 use Rattle.residue_field.proofs.Modular.{prime_ring}
 use Rattle.residue_field.proofs.DigitLaws.{number-same, digit_below, digit_past}
 use Rattle.residue_field.proofs.TopPlaces.{elems_of}
-use Rattle.field_tower.specs.Places.{IsStored, stored}
+use Rattle.field_tower.specs.steps.Places.{IsStored, stored}
 use Rattle.field_tower.proofs.Stored.{stored_from, stored_in, stored-low}
 
 -- one more digit below the digits from place i on

@@ -15,13 +15,13 @@ use Rattle.field_tower.proofs.Letter.{letter_low, letter_one, letter_zero}
 
 module _ (k : Base) where
   ring : IsRing (prime_ops k.p)
-  ring = prime_ring k.p (listed_large k.p k.is_base.0)
+  ring = prime_ring k.p (listed_large k.p k.is_base.listed)
 
   abbrev f : ℕ → ℕ
   f = coeff (prime_ops k.p) k.modulus
 
   read : (i : ℕ) → IsElem (prime_ops k.p) (f i)
-  read = elem_read (prime_ops k.p) k.modulus ring.closed.zero_in k.is_base.2
+  read = elem_read (prime_ops k.p) k.modulus ring.closed.zero_in k.is_base.elems
 
   -- the digits of the letter
   abbrev z : ℕ → ℕ

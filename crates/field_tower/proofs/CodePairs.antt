@@ -5,7 +5,7 @@ use Rattle.ring_core.specs.Ring.{IsElem, IsRing}
 use Rattle.ring_core.specs.Coeffs.{coeff}
 use Rattle.finite_ring.specs.Finite.{HasNoPair}
 use Rattle.residue_field.specs.declared.TopElem.{TopElem}
-use Rattle.residue_field.specs.Residue.{IsPlaces}
+use Rattle.residue_field.specs.steps.Stored.{IsPlaces}
 use Rattle.residue_field.specs.TopElem.{top_places}
 use Rattle.residue_field.specs.Prime.{is_listed, prime_ops}
 use Rattle.residue_field.specs.Digits.{number, code_places}
@@ -15,8 +15,8 @@ use Rattle.residue_field.proofs.Listed.{listed_large}
 use Rattle.residue_field.proofs.DigitLaws.{code_stores}
 use Rattle.residue_field.proofs.Storage.{moved_in, moved_nonzero, moved_product, no_pair_moved}
 use Rattle.field_tower.specs.declared.size.TheConstants.{CODES}
-use Rattle.field_tower.specs.Places.{IsModulus, stored_ops}
-use Rattle.field_tower.specs.Constants.{IsFieldOfCodes}
+use Rattle.field_tower.specs.steps.Places.{IsModulus, stored_ops}
+use Rattle.field_tower.specs.steps.Constants.{IsFieldOfCodes}
 use Rattle.field_tower.specs.Pairs.{IsPair}
 use Rattle.field_tower.proofs.Stored.{fits_of, modulus_monic, stores_of, stored_of}
 use Rattle.field_tower.proofs.CodeDigits.{digits_below}

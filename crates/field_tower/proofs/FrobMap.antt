@@ -10,16 +10,16 @@ use Rattle.ring_core.proofs.FirstValues.{length-first_values, at-first_values}
 use Rattle.ring_core.proofs.Twist.{sum_same}
 use Rattle.ring_core.proofs.PowerLaws.{power_in}
 use Rattle.residue_field.specs.declared.TopElem.{TopElem}
-use Rattle.residue_field.specs.Residue.{residue_unit}
+use Rattle.residue_field.specs.steps.Stored.{residue_unit}
 use Rattle.residue_field.specs.TopElem.{top_places}
 use Rattle.residue_field.specs.Base.{Base, ops_of, size_of}
 use Rattle.residue_field.specs.Top.{Top, top_ops, ops_of_top, frob_of_top}
 use Rattle.residue_field.proofs.BaseLaws.{base_ring}
 use Rattle.residue_field.proofs.TopLaws.{IsTopShape, top_shape_ring, top_stored, top_shape_of, top_degree}
 use Rattle.residue_field.proofs.TopFrob.{top_frob_field, frob_places}
-use Rattle.residue_field.proofs.Period.{frob_mod}
-use Rattle.field_tower.specs.Places.{IsStored, stored}
-use Rattle.field_tower.specs.Images.{frob_image, image_at, combined}
+use Rattle.ring_core.proofs.Twist.{frob_mod}
+use Rattle.field_tower.specs.steps.Places.{IsStored, stored}
+use Rattle.field_tower.specs.steps.Images.{frob_image, image_at, combined_images}
 use Rattle.field_tower.proofs.Stored.{stored_from}
 use Rattle.field_tower.proofs.PowerSteps.{power_none, power_size}
 use Rattle.field_tower.proofs.TopValues.{top_elems}
@@ -77,7 +77,7 @@ image_row t i j l m =
 
 module _ (t : Top) (images : List TopElem) (are : images ≡ first_values (t.n * t.n) (frob_image t.base t.n t.modulus)) where
   positive_degree : 0 < t.n
-  positive_degree = t.is_top.0
+  positive_degree = t.is_top.positive
 
   -- the images are elements
   pub images_elems : (k : ℕ) → k < length images → are_elems (ops_of t.base) (image_at images k).0 ≡ true
@@ -95,8 +95,8 @@ module _ (t : Top) (images : List TopElem) (are : images ≡ first_values (t.n *
       omega arith
 
   combined_is : (c : TopElem) (i l : ℕ) → IsElem (ops_of_top t) c → i < t.n → l < t.n
-      → coeff (ops_of t.base) ((frob_of_top t).frob c i).0 l ≡ combined (ops_of t.base) t.n images (i * t.n) c l
-  unfolding combined
+      → coeff (ops_of t.base) ((frob_of_top t).frob c i).0 l ≡ combined_images (ops_of t.base) t.n images (i * t.n) c l
+  unfolding combined_images
   combined_is c i l c_in low place =
       let r = ops_of t.base in
       let rows : suc i * t.n ≤ t.n * t.n = mul-le-mul_right t.n low in
@@ -106,18 +106,18 @@ module _ (t : Top) (images : List TopElem) (are : images ≡ first_values (t.n *
       (sym (image-read images (t.n * t.n) (frob_image t.base t.n t.modulus) are (i * t.n + j) (omega arith) ∙ image_row t i j low m)))
 
   frob_below : (c : TopElem) (i : ℕ) → IsElem (ops_of_top t) c → i < t.n
-      → (frob_of_top t).frob c i ≡ stored (ops_of t.base) (t.n - 1) (combined (ops_of t.base) t.n images (i * t.n) c)
+      → (frob_of_top t).frob c i ≡ stored (ops_of t.base) (t.n - 1) (combined_images (ops_of t.base) t.n images (i * t.n) c)
   frob_below c i c_in low =
       let x = (frob_of_top t).frob c i in
       let x_in = (top_frob_field t).frob_in c i c_in in
       let shape = top_shape_of t in
       let e : IsStored (ops_of t.base) (t.n - 1) x = stored_elem t x x_in in
-      stored_from (ops_of t.base) (t.n - 1) x.0 (combined (ops_of t.base) t.n images (i * t.n) c) (eqb-true _ _ (and_parts _ _ e).0)
+      stored_from (ops_of t.base) (t.n - 1) x.0 (combined_images (ops_of t.base) t.n images (i * t.n) c) (eqb-true _ _ (and_parts _ _ e).0)
       (λ l (m : l < suc (t.n - 1)). combined_is c i l c_in low (subst (λ d. l < d) (top_degree t) m))
       (λ l m. (top_stored t.base (t.n - 1) t.modulus shape).place_past x l e m)
 
   frob_map : (c : TopElem) (i : ℕ) → IsElem (ops_of_top t) c
-      → stored (ops_of t.base) (t.n - 1) (combined (ops_of t.base) t.n images (i % t.n * t.n) c) ≡ (frob_of_top t).frob c i
+      → stored (ops_of t.base) (t.n - 1) (combined_images (ops_of t.base) t.n images (i % t.n * t.n) c) ≡ (frob_of_top t).frob c i
   frob_map c i c_in =
       let positive = positive_degree in
       let low : i % t.n < t.n = omega arith in
@@ -126,6 +126,6 @@ module _ (t : Top) (images : List TopElem) (are : images ≡ first_values (t.n *
 
   -- from the fields of a value to the value
   pub frob_inside : (s : Top) → t ≡ s → (c : TopElem) (i : ℕ) → IsElem (ops_of_top s) c
-      → stored (ops_of t.base) (t.n - 1) (combined (ops_of t.base) t.n images (i % t.n * t.n) c) ≡ power_of (ops_of_top s) c (size_of s.base ^ i)
+      → stored (ops_of t.base) (t.n - 1) (combined_images (ops_of t.base) t.n images (i % t.n * t.n) c) ≡ power_of (ops_of_top s) c (size_of s.base ^ i)
   frob_inside s e c i c_in =
       frob_map c i (subst (λ u. IsElem (ops_of_top u) c) (sym e) c_in) ∙ ap (λ u. power_of (ops_of_top u) c (size_of u.base ^ i)) e

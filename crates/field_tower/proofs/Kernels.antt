@@ -1,5 +1,5 @@
 -- The kernel of a linear map of residues, from the relations of the rows of its coefficients.
-use Rattle.std.proofs.Common.{◌≡◌, ℕ, suc, ◌+◌, ◌-◌, ◌<◌, ◌≤◌, inl, inr, true, List, length, get_or, sym, refl, ap, ap₂, subst, ◌∙◌, arith, eq-eqb, [], ◌∷◌, zero, take, get_or-take, Option, Some, None, MatchOption, nat_eq, cond}
+use Rattle.std.proofs.Common.{◌≡◌, ℕ, suc, ◌+◌, ◌-◌, ◌<◌, ◌≤◌, inl, inr, true, List, length, sym, ap, ap₂, subst, ◌∙◌, arith, eq-eqb, [], take, get_or-take, Option, Some, None, MatchOption, nat_eq, cond}
 use Rattle.std.proofs.lemmas.List.{length-take-le}
 use Rattle.std.proofs.lemmas.Bool.{and_from, cases_lt, cond_both}
 use Rattle.ring_core.specs.Ring.{RingOps, IsElem, IsRing}
@@ -14,25 +14,16 @@ use Rattle.linear_algebra.proofs.RowLists.{rows_at, rows_by_places, rows_in}
 use Rattle.linear_algebra.proofs.Lift.{combines_row}
 use Rattle.residue_field.specs.declared.TopElem.{TopElem}
 use Rattle.residue_field.specs.declared.TheConstants.{WIDTH}
-use Rattle.residue_field.specs.Residue.{IsPlaces, residue_unit}
+use Rattle.residue_field.specs.steps.Stored.{IsPlaces, residue_unit}
 use Rattle.residue_field.specs.TopElem.{top_places}
 use Rattle.residue_field.proofs.Acceptance.{power_places, moved_places}
 use Rattle.ring_core.proofs.PowerLaws.{power_in}
-use Rattle.field_tower.specs.Places.{IsModulus, IsStored, stored, stored_ops}
-use Rattle.field_tower.specs.Constants.{IsFieldOfCodes}
+use Rattle.field_tower.specs.steps.Places.{IsModulus, IsStored, stored, stored_ops}
+use Rattle.field_tower.specs.steps.Constants.{IsFieldOfCodes}
 use Rattle.field_tower.specs.declared.accept.LinearMap.{LinearMap}
 use Rattle.field_tower.specs.declared.accept.LinearMap.TheVariants.{Power, Difference}
-use Rattle.field_tower.specs.Kernel.{image_of, letter_power, image_row, row_residue, AreLow, IsAbove, low_count, HasLowKernel, IsInKernel}
+use Rattle.field_tower.specs.steps.Kernel.{image_of, letter_power, image_row, row_residue, AreLow, IsAbove, low_count, HasLowKernel, IsInKernel}
 use Rattle.field_tower.proofs.Stored.{fits_of, modulus_monic, stores_of, stored_ring, stored_in, stored-low, elem_of, stored_of}
-
--- a place below the length, with any element for a place past it
-place_default : (u : List ℕ) (i d e : ℕ) → i < length u → get_or u i d ≡ get_or u i e
-place_default [] i d e l = absurd (omega arith)
-place_default (x ∷ xs) zero d e l = refl
-place_default (x ∷ xs) (suc i) d e l = place_default xs i d e (omega arith)
-
-pub place_read : (r : RingOps ℕ) (u : List ℕ) (i x : ℕ) → i < length u → x ≡ get_or u i x → x ≡ coeff r u i
-place_read r u i x l e = e ∙ place_default u i x r.zero l
 
 module _ (r : RingOps ℕ) (q : ℕ) (codes : IsFieldOfCodes r q) (modulus : List ℕ) (monic : IsModulus r modulus) where
   abbrev n : ℕ

@@ -7,6 +7,7 @@ pub mod Letter
 pub mod CodeLetter
 pub mod CodeDigits
 pub mod BaseValues
+pub mod FilledTables
 pub mod BaseTables
 pub mod TopValues
 pub mod FrobMap
@@ -14,5 +15,3 @@ pub mod Kernels
 pub mod PairValues
 pub mod ConstantValues
 pub mod CodePairs
-pub mod Coordinates
-pub mod MinPoly

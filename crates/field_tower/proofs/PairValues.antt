@@ -8,15 +8,16 @@ use Rattle.finite_ring.specs.Finite.{HasNoPair, root_product}
 use Rattle.ring_core.proofs.PowerLaws.{power_in}
 use Rattle.std.proofs.lemmas.Bool.{cases_lt}
 use Rattle.residue_field.specs.declared.TopElem.{TopElem}
-use Rattle.residue_field.specs.Residue.{constant_at, IsPlaces}
+use Rattle.residue_field.specs.Residue.{constant_at}
+use Rattle.residue_field.specs.steps.Stored.{IsPlaces}
 use Rattle.residue_field.specs.TopElem.{top_places}
 use Rattle.residue_field.proofs.ResidueRing.{residue_one}
 use Rattle.residue_field.proofs.Embedded.{residue_accepted}
 use Rattle.residue_field.proofs.Acceptance.{roots_product}
-use Rattle.field_tower.specs.Places.{IsModulus, stored_ops}
-use Rattle.field_tower.specs.Constants.{IsFieldOfCodes}
+use Rattle.field_tower.specs.steps.Places.{IsModulus, stored_ops}
+use Rattle.field_tower.specs.steps.Constants.{IsFieldOfCodes}
 use Rattle.field_tower.specs.declared.accept.LinearMap.TheVariants.{Power, Difference}
-use Rattle.field_tower.specs.Kernel.{IsLow, HasLowKernel}
+use Rattle.field_tower.specs.steps.Kernel.{IsLow, HasLowKernel}
 use Rattle.field_tower.proofs.Stored.{modulus_monic, stores_of, stored_ring}
 use Rattle.field_tower.proofs.StoredValues.{constant_at_in, constant_in}
 use Rattle.field_tower.proofs.Kernels.{residue_same, residue_past, residue_place_in, zero_place, place_next}

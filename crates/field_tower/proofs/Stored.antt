@@ -8,11 +8,12 @@ use Rattle.ring_core.proofs.Coefficients.{elem_read, coeff_past, values-coeff, c
 use Rattle.ring_core.proofs.FirstValues.{values_same}
 use Rattle.residue_field.specs.declared.TopElem.{TopElem}
 use Rattle.residue_field.specs.declared.TheConstants.{WIDTH}
-use Rattle.residue_field.specs.Residue.{constant_at, IsMonic, IsPlaces}
+use Rattle.residue_field.specs.Residue.{constant_at}
+use Rattle.residue_field.specs.steps.Stored.{IsMonic, IsPlaces}
 use Rattle.residue_field.specs.TopElem.{top_places, are_zeros}
 use Rattle.residue_field.proofs.TopPlaces.{top_stores}
 use Rattle.residue_field.proofs.ResidueRing.{residue_ring}
-use Rattle.field_tower.specs.Places.{IsModulus, IsStored, stored, stored_ops}
+use Rattle.field_tower.specs.steps.Places.{IsModulus, IsStored, stored, stored_ops}
 
 abbrev pub top_elem : List ℕ → TopElem
 top_elem u = record { 0 = u }

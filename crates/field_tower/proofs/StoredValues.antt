@@ -6,7 +6,7 @@ use Rattle.residue_field.specs.declared.TopElem.{TopElem}
 use Rattle.residue_field.specs.Residue.{constant_at}
 use Rattle.residue_field.specs.TopElem.{top_places}
 use Rattle.residue_field.proofs.TopPlaces.{elems_of}
-use Rattle.field_tower.specs.Places.{IsModulus, IsStored, stored, stored_ops}
+use Rattle.field_tower.specs.steps.Places.{IsModulus, IsStored, stored, stored_ops}
 use Rattle.field_tower.proofs.Stored.{fits_of, stores_of, stored_ring, elem_of, stored_of}
 
 module _ (r : RingOps ℕ) (hb : IsRing r) (commutes : IsCommutative r) (modulus : List ℕ) (monic : IsModulus r modulus) where

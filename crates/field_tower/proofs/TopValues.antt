@@ -13,7 +13,7 @@ use Rattle.residue_field.specs.Top.{Top, top_ops, ops_of_top, inverse_of_top, em
 use Rattle.residue_field.proofs.BaseLaws.{base_ring}
 use Rattle.residue_field.proofs.TopPlaces.{elems_of}
 use Rattle.residue_field.proofs.TopLaws.{IsTopShape, top_shape_of}
-use Rattle.field_tower.specs.Places.{IsModulus, stored, stored_ops}
+use Rattle.field_tower.specs.steps.Places.{IsModulus, stored, stored_ops}
 use Rattle.field_tower.proofs.Stored.{none_is}
 
 -- What the operations of a top field are, as code computes them.
@@ -97,10 +97,10 @@ letter-of t = refl
 -- from the fields of a value to the value
 pub ops-inside : (s t : Top) → s ≡ t → (w : List ℕ) → w ≡ s.modulus → stored_ops (ops_of s.base) w ≡ ops_of_top t
 ops-inside s t e w is =
-    ap (stored_ops (ops_of s.base)) is ∙ stored-top s.base s.n s.modulus s.is_top.3 ∙ ap ops_of_top e
+    ap (stored_ops (ops_of s.base)) is ∙ stored-top s.base s.n s.modulus s.is_top.count ∙ ap ops_of_top e
 
 pub letter-inside : (s t : Top) → s ≡ t → (w : List ℕ) → w ≡ s.modulus
     → residue_letter (ops_of s.base) (length w - 2) (coeff (ops_of s.base) w) (top_places (ops_of s.base) (length w - 2)) ≡ letter_of t
 letter-inside s t e w is =
     ap (λ u. residue_letter (ops_of s.base) (length u - 2) (coeff (ops_of s.base) u) (top_places (ops_of s.base) (length u - 2))) is
-    ∙ letter-top s.base s.n s.modulus s.is_top.3 ∙ letter-of s ∙ ap letter_of e
+    ∙ letter-top s.base s.n s.modulus s.is_top.count ∙ letter-of s ∙ ap letter_of e

@@ -1,16 +1,11 @@
 -- A list written place by place.
-use Rattle.std.proofs.Common.{◌≡◌, ◌≢◌, ℕ, zero, suc, ◌<◌, true, List, [], ◌∷◌, length, slice_set, get_or-set_other, get_or-set_same, ⊎_elim, sym, refl, ap, ap₂, ◌∙◌, arith}
-use Rattle.std.proofs.lemmas.Bool.{and_parts, and_from, cases_eq}
-use Rattle.ring_core.specs.Ring.{RingOps, IsElem}
-use Rattle.ring_core.specs.Coeffs.{coeff, are_elems}
+use Rattle.std.proofs.Common.{◌≡◌, ◌≢◌, ℕ, zero, suc, ◌<◌, List, length, slice_set, get_or-set_other, get_or-set_same, ⊎_elim, sym, refl, ap, ap₂, ◌∙◌, arith}
+use Rattle.std.proofs.lemmas.Bool.{cases_eq}
+use Rattle.ring_core.specs.Ring.{RingOps}
+use Rattle.ring_core.specs.Coeffs.{coeff}
 use Rattle.residue_field.specs.Residue.{shifted, times_x}
 
 module _ {E : Type 0} (r : RingOps E) where
-  pub elems-set : (u : List E) (i : ℕ) (v : E) → are_elems r u ≡ true → IsElem r v → are_elems r (slice_set u i v) ≡ true
-  elems-set [] i v e h = refl
-  elems-set (x ∷ xs) zero v e h = and_from _ _ h (and_parts _ _ e).1
-  elems-set (x ∷ xs) (suc i) v e h = and_from _ _ (and_parts _ _ e).0 (elems-set xs i v (and_parts _ _ e).1 h)
-
   -- what a write at `i` leaves at `j`
   pub written : (u : List E) (i : ℕ) (v : E) (g : ℕ → E) (j : ℕ) → i < length u → v ≡ g i → (j ≢ i → coeff r u j ≡ g j) → coeff r (slice_set u i v) j ≡ g j
   written u i v g j l e other =

@@ -2,7 +2,7 @@
 use Rattle.std.specs.Prelude.{◌≡◌, ℕ, ◌+◌, ◌-◌, ◌%◌, ◌^◌, ◌<◌, ◌≤◌, List, length, map, slice_index, true, Result, Ok, Err}
 use Rattle.field_tower.specs.declared.fault.BaseFault.{BaseFault}
 use Rattle.field_tower.specs.declared.fault.BaseFault.TheVariants.{TooLarge, BadModulus, ZeroDivisors, NoMemory}
-use Rattle.field_tower.specs.declared.size.TheConstants.{CODES}
+use Rattle.residue_field.specs.Sizes.{most_codes}
 use Rattle.residue_field.specs.Prime.{is_listed}
 use Rattle.residue_field.specs.Base.{Base, base_ops}
 use Rattle.field_tower.specs.Pairs.{IsPair}
@@ -13,7 +13,7 @@ reduced p modulus = map (λ c. c % p) modulus
 
 -- `p` is a listed prime, and the codes suffice for `p^s` elements.
 abbrev pub HasBaseSize : ℕ → ℕ → Type 0
-HasBaseSize p s = (is_listed p ≡ true) × (0 < s) × (p ^ s ≤ CODES)
+HasBaseSize p s = (is_listed p ≡ true) × (0 < s) × (p ^ s ≤ most_codes)
 
 -- The numbers, modulo `p`, are a monic polynomial of degree `s`.
 abbrev pub IsMonicModulo : ℕ → ℕ → List ℕ → Type 0
@@ -22,13 +22,6 @@ IsMonicModulo p s modulus = (length modulus ≡ s + 1) × (slice_index modulus s
 -- The base field of these data.
 abbrev pub IsBaseOf : ℕ → ℕ → List ℕ → Base → Type 0
 IsBaseOf p s modulus k = (k.p ≡ p) × (k.s ≡ s) × (k.modulus ≡ modulus)
-
--- What refuses data that are monic: two nonzero codes whose product is zero, or want of memory.
-abbrev pub IsFaultOf : ℕ → ℕ → List ℕ → BaseFault → Type 0
-IsFaultOf p s modulus TooLarge = ⊥
-IsFaultOf p s modulus BadModulus = ⊥
-IsFaultOf p s modulus (ZeroDivisors a b) = IsPair (base_ops p (s - 1) modulus) a b
-IsFaultOf p s modulus NoMemory = Unit {0}
 
 -- Where each refusal comes. Want of memory may come once the size and the modulus are known to hold.
 abbrev pub IsBaseFault : ℕ → ℕ → List ℕ → BaseFault → Type 0

@@ -1,19 +1,17 @@
 -- What making a top field answers.
-use Rattle.std.specs.Prelude.{◌≡◌, ℕ, ◌+◌, ◌-◌, ◌*◌, ◌<◌, ◌≤◌, List, length, Result, Ok, Err}
+use Rattle.std.specs.Prelude.{◌≡◌, ℕ, ◌+◌, ◌-◌, ◌<◌, ◌≤◌, List, length, Result, Ok, Err}
 use Rattle.field_tower.specs.declared.fault.TowerFault.{TowerFault}
 use Rattle.field_tower.specs.declared.fault.TowerFault.TheVariants.{TooLarge, BadModulus, ZeroDivisors, NoMemory}
 use Rattle.field_tower.specs.declared.tower.TowerRefused.{TowerRefused}
-use Rattle.residue_field.specs.declared.TheConstants.{WIDTH}
-use Rattle.ring_core.specs.Coeffs.{coeff, first_values}
+use Rattle.residue_field.specs.Sizes.{most_places}
+use Rattle.ring_core.specs.Coeffs.{coeff}
 use Rattle.residue_field.specs.Base.{Base, ops_of}
-use Rattle.residue_field.specs.Top.{Top, IsTop, top_ops}
-use Rattle.residue_field.specs.declared.TopElem.{TopElem}
+use Rattle.residue_field.specs.Top.{Top, top_ops}
 use Rattle.field_tower.specs.Pairs.{IsPair}
-use Rattle.field_tower.specs.Images.{frob_image}
 
 -- The places suffice for a degree of `n`.
 abbrev pub HasTopSize : ℕ → Type 0
-HasTopSize n = (0 < n) × (n ≤ WIDTH)
+HasTopSize n = (0 < n) × (n ≤ most_places)
 
 -- The list is a monic polynomial of degree `n` over the base.
 abbrev pub IsMonicOver : Base → ℕ → List ℕ → Type 0
@@ -26,12 +24,6 @@ IsTopFault base n modulus BadModulus = HasTopSize n × (IsMonicOver base n modul
 IsTopFault base n modulus (ZeroDivisors a b) =
     HasTopSize n × IsMonicOver base n modulus × IsPair (top_ops base (n - 1) modulus) a b
 IsTopFault base n modulus NoMemory = HasTopSize n × IsMonicOver base n modulus
-
--- The modulus and the images that the top field of these data keeps.
-pub record ArePartsOf (base : Base) (n : ℕ) (modulus kept : List ℕ) (images : List TopElem) : Type 0 where
-  pub is_top : IsTop base n modulus
-  pub kept_is : kept ≡ modulus
-  pub images_are : images ≡ first_values (n * n) (frob_image base n modulus)
 
 -- The field of the data that were handed in, in which no two nonzero residues multiply to zero, or a
 -- refusal with its cause, which hands the base back.

@@ -1,22 +1,22 @@
 //! Acceptance of residues as a field, by two linear maps over the constants: the power by the number of
 //! constants, and that power less the element.
 
-ghost use Rattle.std.specs.Prelude.{◌≡◌, ℕ, ◌+◌, ◌-◌, ◌<◌, ◌≤◌, ◌↔◌, IsTrue, MatchOption, IfOk, length, true};
+ghost use Rattle.std.specs.Prelude.{◌≡◌, ℕ, ◌+◌, ◌-◌, ◌<◌, ◌≤◌, MatchOption, IfOk, length, true};
 ghost use Rattle.ring_core.specs.Ring.{IsElem};
-ghost use Rattle.ring_core.specs.Coeffs.{are_elems, first_values};
+ghost use Rattle.ring_core.specs.Coeffs.{first_values};
 ghost use Rattle.linear_algebra.specs.Linear.{are_rows};
 ghost use Rattle.finite_ring.specs.Finite.{HasNoPair};
 ghost use Rattle.residue_field.specs.declared.TheConstants.{WIDTH};
-ghost use Rattle.field_tower.specs.Constants.{IsFieldOfCodes};
-ghost use Rattle.field_tower.specs.Places.{IsModulus, stored_ops};
+ghost use Rattle.field_tower.specs.steps.Constants.{IsFieldOfCodes};
+ghost use Rattle.field_tower.specs.steps.Places.{IsModulus, stored_ops};
 ghost use Rattle.field_tower.specs.Pairs.{IsPair};
-ghost use Rattle.field_tower.specs.Kernel.{image_of, letter_power, image_row, IsLow, row_residue, AreLow, IsAbove, low_count, HasLowKernel, IsInKernel};
+ghost use Rattle.field_tower.specs.steps.Kernel.{image_of, letter_power, image_row, row_residue, AreLow, IsAbove, low_count, HasLowKernel, IsInKernel};
 
 use super::pair::{factor_pair, power_pair};
 use super::places;
 use fq_linear::{Rows, kernel};
 use residue_field::{Code, TopElem, WIDTH};
-use ring_core::lists::coeff_at;
+use ring_core::rows::is_zero_from;
 use ring_core::{Field, NoMemory};
 use std::alloc::Global;
 
@@ -99,19 +99,6 @@ fn image_rows<F: Field<Elem = Code>>(
     Ok(rows)
 }
 
-/// Whether the coefficients of `x` from the place `low` on are zero.
-fn is_low<F: Field<Elem = Code>>(field: &F, low: usize, x: TopElem) -> bool
-    requires { are_elems (F.ops field.now) x.0 ≡ true }
-    ensures { IsTrue result ↔ IsLow (F.ops field.now) low x }
-{
-    for i in low..WIDTH {
-        if !field.equal(coeff_at(field, &x.0, i), field.zero()) {
-            return false;
-        }
-    }
-    true
-}
-
 /// The residue whose `n` coefficients are row `i`.
 fn residue_of_row<F: Field<Elem = Code>>(
     field: &F,
@@ -148,7 +135,7 @@ fn find_above<F: Field<Elem = Code>>(
 {
     for i in 0..rows.len() {
         let x = residue_of_row(field, n, rows, i);
-        if !is_low(field, low, x) {
+        if !is_zero_from(field, low, &x.0) {
             return Some(x);
         }
     }

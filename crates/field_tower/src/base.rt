@@ -3,14 +3,16 @@ ghost use Rattle.ring_core.specs.Ring.{IsElem};
 ghost use Rattle.ring_core.specs.Coeffs.{are_elems};
 ghost use Rattle.ring_core.specs.Powers.{power_of};
 ghost use Rattle.finite_ring.specs.Finite.{HasNoPair};
-ghost use Rattle.residue_field.specs.Tables.{IsRow, IsTable};
+ghost use Rattle.field_tower.specs.steps.Tables.{IsRow, IsTable};
+ghost use Rattle.residue_field.specs.Sizes.{most_codes};
 ghost use Rattle.residue_field.specs.Prime.{is_listed, prime_ops};
 ghost use Rattle.residue_field.specs.Base.{Base, IsBase, base_ops, base_code, ops_of, size_of, inverse_of, letter_code};
 ghost use Rattle.residue_field.proofs.BaseLaws.{base_field};
 ghost use Rattle.field_tower.specs.declared.size.TheConstants.{CODES};
-ghost use Rattle.field_tower.specs.Places.{IsModulus};
+ghost use Rattle.field_tower.specs.steps.Places.{IsModulus};
 ghost use Rattle.field_tower.specs.Pairs.{IsPair};
-ghost use Rattle.field_tower.specs.MakeBase.{MakesBase, IsBaseOf, IsFaultOf, reduced as reduced_list};
+ghost use Rattle.field_tower.specs.MakeBase.{MakesBase, IsBaseOf, reduced as reduced_list};
+ghost use Rattle.field_tower.specs.steps.Parts.{IsFaultOf};
 
 use super::accept::find_pair;
 use super::codes::number;
@@ -107,7 +109,7 @@ impl BaseField {
     /// How many elements the field has.
     pub fn q(&self) -> u32
         ensures value { result ≡ size_of self.now }
-        ensures small { result ≤ CODES }
+        ensures small { result ≤ most_codes }
     {
         self.q as u32
     }
@@ -134,7 +136,8 @@ impl BaseField {
         self.products[a as usize * self.q + b as usize]
     }
 
-    /// `a` multiplied `k` times, one for `k = 0`.
+    /// `a` multiplied `k` times, one for `k = 0`. The inverse can't call `field_power`, whose proof stands on
+    /// this type's proof of the laws of a field.
     fn power(&self, a: Code, k: usize) -> Code
         requires { IsElem (ops_of self.now) a }
         ensures value { result ≡ power_of (ops_of self.now) a k }

@@ -3,8 +3,8 @@ ghost use Rattle.ring_core.specs.Ring.{IsElem};
 ghost use Rattle.ring_core.specs.Coeffs.{are_elems, first_values};
 ghost use Rattle.residue_field.specs.declared.TheConstants.{WIDTH};
 ghost use Rattle.residue_field.specs.Base.{ops_of};
-ghost use Rattle.field_tower.specs.Places.{IsModulus, stored};
-ghost use Rattle.field_tower.specs.Images.{frob_image, image_at, combined};
+ghost use Rattle.field_tower.specs.steps.Places.{IsModulus, stored};
+ghost use Rattle.field_tower.specs.steps.Images.{frob_image, image_at, combined_images};
 
 use super::accept::unit;
 use super::base::BaseField;
@@ -62,7 +62,7 @@ fn combined_at(
     requires coeffs { are_elems (ops_of base.now) c.0 ≡ true }
     requires images { (k : ℕ) → k < length images.now → are_elems (ops_of base.now) (image_at images.now k).0 ≡ true }
     requires row { start + n ≤ length images.now }
-    ensures value { result ≡ combined (ops_of base.now) n images.now start c l }
+    ensures value { result ≡ combined_images (ops_of base.now) n images.now start c l }
     ensures elem { IsElem (ops_of base.now) result }
 {
     let mut sum = base.zero();
@@ -88,7 +88,7 @@ pub(crate) fn combination(
     requires coeffs { are_elems (ops_of base.now) c.0 ≡ true }
     requires images { (k : ℕ) → k < length images.now → are_elems (ops_of base.now) (image_at images.now k).0 ≡ true }
     requires row { start + n ≤ length images.now }
-    ensures { result ≡ stored (ops_of base.now) (n - 1) (combined (ops_of base.now) n images.now start c) }
+    ensures { result ≡ stored (ops_of base.now) (n - 1) (combined_images (ops_of base.now) n images.now start c) }
 {
     let mut places = places::zeros(base);
     for l in 0..n {

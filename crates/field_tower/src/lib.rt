@@ -9,8 +9,6 @@ mod base;
 mod codes;
 mod fault;
 mod frobenius;
-pub mod laws;
-mod min_poly;
 mod pair;
 mod places;
 mod prime;

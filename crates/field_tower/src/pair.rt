@@ -5,10 +5,10 @@ ghost use Rattle.ring_core.specs.Ring.{IsElem};
 ghost use Rattle.ring_core.specs.Powers.{power_of};
 ghost use Rattle.residue_field.specs.Residue.{constant_at};
 ghost use Rattle.residue_field.specs.TopElem.{top_places};
-ghost use Rattle.field_tower.specs.Constants.{IsFieldOfCodes};
-ghost use Rattle.field_tower.specs.Places.{IsModulus, stored_ops};
+ghost use Rattle.field_tower.specs.steps.Constants.{IsFieldOfCodes};
+ghost use Rattle.field_tower.specs.steps.Places.{IsModulus, stored_ops};
 ghost use Rattle.field_tower.specs.Pairs.{IsPair};
-ghost use Rattle.field_tower.specs.Kernel.{IsLow, IsNonzero};
+ghost use Rattle.field_tower.specs.steps.Kernel.{IsLow, IsNonzero};
 
 use super::places;
 use residue_field::{Code, TopElem};

@@ -5,7 +5,7 @@ ghost use Rattle.ring_core.specs.Powers.{power_of};
 ghost use Rattle.residue_field.specs.declared.TheConstants.{WIDTH};
 ghost use Rattle.residue_field.specs.Residue.{constant_at, residue_letter};
 ghost use Rattle.residue_field.specs.TopElem.{are_zeros, top_places};
-ghost use Rattle.field_tower.specs.Places.{IsModulus, IsStored, stored, stored_ops};
+ghost use Rattle.field_tower.specs.steps.Places.{IsModulus, IsStored, stored, stored_ops};
 
 use super::residues::multiply;
 use residue_field::{Code, TopElem, WIDTH};
@@ -167,7 +167,8 @@ pub(crate) fn power_less_two<F: Field<Elem = Code>>(
     requires size { 2 ≤ q }
     requires positive { 0 < n }
     requires elem { IsElem (stored_ops (F.ops field.now) modulus.now) a }
-    ensures { result ≡ power_of (stored_ops (F.ops field.now) modulus.now) a (q ^ n - 2) }
+    ensures value { result ≡ power_of (stored_ops (F.ops field.now) modulus.now) a (q ^ n - 2) }
+    ensures elem { IsElem (stored_ops (F.ops field.now) modulus.now) result }
 {
     let digit = power(field, modulus, a, q - 1);
     let mut result = constant(field, field.one());

@@ -1,9 +1,9 @@
 ghost use Rattle.std.specs.Prelude.{◌≡◌, ◌-◌, ◌+◌, ◌*◌, ◌<◌, ◌≤◌, ◌^◌, IfOk, length};
-ghost use Rattle.residue_field.specs.Tables.{IsRow, IsTable};
+ghost use Rattle.field_tower.specs.steps.Tables.{IsRow, IsTable};
 ghost use Rattle.residue_field.specs.Prime.{prime_ops};
 ghost use Rattle.residue_field.specs.Base.{base_ops};
 ghost use Rattle.field_tower.specs.declared.size.TheConstants.{CODES};
-ghost use Rattle.field_tower.specs.Places.{IsModulus};
+ghost use Rattle.field_tower.specs.steps.Places.{IsModulus};
 
 use super::codes::{digits, number};
 use super::places;

@@ -7,18 +7,18 @@ ghost use Rattle.residue_field.proofs.TopLaws.{top_field};
 ghost use Rattle.residue_field.proofs.TopFrob.{top_frob_field};
 ghost use Rattle.residue_field.specs.declared.TheConstants.{WIDTH};
 ghost use Rattle.finite_ring.specs.Finite.{HasNoPair};
-ghost use Rattle.field_tower.specs.Places.{IsModulus};
+ghost use Rattle.field_tower.specs.steps.Places.{IsModulus};
 ghost use Rattle.field_tower.specs.Pairs.{IsPair};
-ghost use Rattle.field_tower.specs.Images.{frob_image};
-ghost use Rattle.field_tower.specs.MinPoly.{IsMinPoly};
+ghost use Rattle.field_tower.specs.steps.Images.{frob_image};
+ghost use Rattle.minimal_poly.specs.MinPoly.{IsMinPoly};
 
 use super::accept::find_pair;
 use super::base::BaseField;
 use super::fault::TowerFault;
 use super::frobenius::{combination, images};
-use super::min_poly::least_relation;
 use super::places;
 use fq_poly::Poly;
+use minimal_poly::min_poly;
 use residue_field::{Code, TopElem, WIDTH};
 use ring_core::{Field, FrobField, NoMemory};
 use std::alloc::Global;
@@ -77,7 +77,8 @@ struct TopParts {
 
 impl Tower {
     ghost use Rattle.std.specs.Prelude.{MatchResult};
-    ghost use Rattle.field_tower.specs.MakeTop.{MakesTop, IsTopFault, ArePartsOf};
+    ghost use Rattle.field_tower.specs.MakeTop.{MakesTop, IsTopFault};
+    ghost use Rattle.field_tower.specs.steps.Parts.{ArePartsOf};
 
     /// The field of the residues modulo `modulus`, whose `n + 1` members are elements of `base`, lowest
     /// coefficient first. The refusals come in this order: `TooLarge` where `n` is 0 or more than
@@ -142,7 +143,7 @@ impl Tower {
         requires { IsElem (ops_of_top self.now) c }
         ensures { IfOk result (IsMinPoly (ops_of_top self.now) (ops_of self.now.base) (embed_of self.now) c) }
     {
-        Ok(Poly::from_vec(least_relation(alloc, self, c)?))
+        Ok(min_poly(alloc, self, c)?)
     }
 
     /// The residue of the polynomial `z`.

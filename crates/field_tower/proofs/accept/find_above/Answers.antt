@@ -7,8 +7,8 @@ use Rattle.residue_field.proofs.TopPlaces.{elems_of}
 use Rattle.field_tower.proofs.Stored.{stored_in}
 use Rattle.field_tower.proofs.accept.find_above.Goals as goal
 
-pub is_low-requires : goal.is_low-requires
-is_low-requires g c =
+pub is_zero_from-requires : goal.is_zero_from-requires
+is_zero_from-requires g c =
     let r = g.F.Field.ops c.args.field.now in
     let ring = (g.met.F.Field.laws c.args.field.now).ring in
     let n = c.args.n in

@@ -1,5 +1,5 @@
 use Rattle.std.proofs.Common.{ℕ, ◌<◌}
-use Rattle.field_tower.specs.Kernel.{IsLow, row_residue}
+use Rattle.field_tower.specs.steps.Kernel.{IsLow, row_residue}
 use Rattle.field_tower.proofs.accept.find_above.Given as goal
 
 abbrev pub invariant-loop-i : goal.invariant-loop-i

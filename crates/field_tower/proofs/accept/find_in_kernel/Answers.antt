@@ -1,6 +1,6 @@
 use Rattle.std.proofs.Common.{◌≡◌, ◌-◌, length, MatchOption, true, sym, subst, ◌∙◌}
 use Rattle.linear_algebra.specs.Linear.{are_rows}
-use Rattle.field_tower.specs.Kernel.{AreLow, IsAbove}
+use Rattle.field_tower.specs.steps.Kernel.{AreLow, IsAbove}
 use Rattle.field_tower.proofs.Kernels.{rows_shaped, rows_count, basis_shaped, kernel_found}
 use Rattle.field_tower.proofs.accept.find_in_kernel.Goals as goal
 

@@ -1,6 +1,6 @@
 use Rattle.std.proofs.Common.{◌≡◌, Some, None, MatchOption, subst}
 use Rattle.field_tower.specs.declared.accept.LinearMap.TheVariants.{Power, Difference}
-use Rattle.field_tower.specs.Kernel.{HasLowKernel, IsInKernel}
+use Rattle.field_tower.specs.steps.Kernel.{HasLowKernel, IsInKernel}
 use Rattle.field_tower.proofs.PairValues.{fixed_from, accepted}
 use Rattle.field_tower.proofs.accept.find_pair.Goals as goal
 

@@ -1,7 +1,7 @@
 use Rattle.std.proofs.Common.{sym, ap, ap₂, subst, ◌∙◌, arith}
 use Rattle.ring_core.specs.Ring.{IsElem}
-use Rattle.field_tower.specs.Places.{stored_ops}
-use Rattle.field_tower.specs.Kernel.{image_of}
+use Rattle.field_tower.specs.steps.Places.{stored_ops}
+use Rattle.field_tower.specs.steps.Kernel.{image_of}
 use Rattle.field_tower.proofs.Stored.{sum_made, negative_made, stored_at, stored_ring}
 use Rattle.field_tower.proofs.accept.image.Goals as goal
 

@@ -2,8 +2,8 @@ use Rattle.std.proofs.Common.{◌≡◌, ◌+◌, suc, [], ◌∷◌, ◌++◌, 
 use Rattle.ring_core.specs.Ring.{IsElem}
 use Rattle.ring_core.specs.Coeffs.{first_values}
 use Rattle.ring_core.proofs.FirstValues.{values_pushed}
-use Rattle.field_tower.specs.Places.{stored_ops}
-use Rattle.field_tower.specs.Kernel.{image_row, image_of}
+use Rattle.field_tower.specs.steps.Places.{stored_ops}
+use Rattle.field_tower.specs.steps.Kernel.{image_row, image_of}
 use Rattle.field_tower.proofs.Kernels.{letter_power_in, image_taken}
 use Rattle.field_tower.proofs.accept.image_rows.Goals as goal
 

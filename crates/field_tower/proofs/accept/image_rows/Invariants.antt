@@ -1,6 +1,6 @@
 use Rattle.std.proofs.Common.{◌≡◌, ◌-◌, length}
 use Rattle.ring_core.specs.Coeffs.{first_values}
-use Rattle.field_tower.specs.Kernel.{image_row}
+use Rattle.field_tower.specs.steps.Kernel.{image_row}
 use Rattle.field_tower.proofs.accept.image_rows.Given as goal
 
 abbrev pub invariant-loop-j : goal.invariant-loop-j

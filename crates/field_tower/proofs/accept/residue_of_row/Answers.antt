@@ -1,4 +1,4 @@
-use Rattle.std.proofs.Common.{◌≡◌, ◌≢◌, ◌+◌, ◌-◌, ◌<◌, ◌≤◌, suc, length, length-set, ◌∙◌, arith}
+use Rattle.std.proofs.Common.{◌≢◌, ◌+◌, ◌-◌, ◌<◌, ◌≤◌, suc, length-set, ◌∙◌, arith}
 use Rattle.linear_algebra.specs.Linear.{entry}
 use Rattle.residue_field.specs.declared.TheConstants.{WIDTH}
 use Rattle.field_tower.proofs.Writes.{written, unwritten}

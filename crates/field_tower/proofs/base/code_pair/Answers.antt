@@ -1,7 +1,7 @@
 use Rattle.std.proofs.Common.{◌≡◌, Some, None, MatchOption, subst}
 use Rattle.finite_ring.specs.Finite.{HasNoPair}
 use Rattle.residue_field.specs.Prime.{prime_ops}
-use Rattle.field_tower.specs.Places.{stored_ops}
+use Rattle.field_tower.specs.steps.Places.{stored_ops}
 use Rattle.field_tower.specs.Pairs.{IsPair}
 use Rattle.field_tower.proofs.CodePairs.{prime_constants, no_code_pair, digits_small, code_pair_made}
 use Rattle.field_tower.proofs.base.code_pair.Goals as goal

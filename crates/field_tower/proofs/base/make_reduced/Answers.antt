@@ -1,9 +1,9 @@
 use Rattle.std.proofs.Common.{length, None, MatchOption, ◌≡◌, ◌-◌, ◌≤◌, sym, subst}
 use Rattle.finite_ring.specs.Finite.{HasNoPair}
-use Rattle.residue_field.specs.Tables.{IsRow, IsTable}
+use Rattle.field_tower.specs.steps.Tables.{IsRow, IsTable}
 use Rattle.residue_field.specs.Prime.{prime_ops}
-use Rattle.residue_field.specs.Base.{base_ops}
-use Rattle.field_tower.specs.Places.{IsModulus}
+use Rattle.residue_field.specs.Base.{IsBase, base_ops}
+use Rattle.field_tower.specs.steps.Places.{IsModulus}
 use Rattle.field_tower.specs.Pairs.{IsPair}
 use Rattle.field_tower.proofs.BaseTables.{modulus_of, moved}
 use Rattle.field_tower.proofs.base.make_reduced.Goals as goal
@@ -51,26 +51,15 @@ invariant_of-result c =
     let k = base_ops p (length w - 2) w in
     let answer : c.in-Ok-None.field-0 ≡ None = c.in-Ok-None.field-0-is in
     let none = subst (λ o. MatchOption o (HasNoPair k) (λ pair. IsPair k pair.0 pair.1)) answer c.in-Ok-None.ensures in
-    let no_pair = moved (λ n u. HasNoPair (base_ops p n u)) w modulus s c.deref.ensures.value c.requires.members none in (
-      (
-        c.args.prime.listed,
-        positive,
-        c.requires.elems,
-        c.requires.members,
-        c.requires.monic,
-        no_pair,
-      ),
-      (
-        c.requires.count,
-        (
-          c.requires.small,
-          (
-            moved (λ n u. IsTable q (base_ops p n u).add sums) _ modulus s c.deref-3.ensures.value c.requires.members c.in-Ok-sum_table.ensures,
-            (
-              table,
-              (moved (λ n u. IsRow q (base_ops p n u).neg negatives) _ modulus s c.deref-4.ensures.value c.requires.members c.in-Ok-negative_row.ensures, tt),
-            ),
-          ),
-        ),
-      ),
-    )
+    let no_pair = moved (λ n u. HasNoPair (base_ops p n u)) w modulus s c.deref.ensures.value c.requires.members none in
+    let is_base : IsBase p s modulus = record {
+      listed = c.args.prime.listed;
+      positive = positive;
+      elems = c.requires.elems;
+      count = c.requires.members;
+      top = c.requires.monic;
+      no_pair = no_pair;
+    } in
+    let add_table = moved (λ n u. IsTable q (base_ops p n u).add sums) _ modulus s c.deref-3.ensures.value c.requires.members c.in-Ok-sum_table.ensures in
+    let neg_row = moved (λ n u. IsRow q (base_ops p n u).neg negatives) _ modulus s c.deref-4.ensures.value c.requires.members c.in-Ok-negative_row.ensures in
+    (is_base, (c.requires.count, (c.requires.small, (add_table, (table, (neg_row, tt))))))

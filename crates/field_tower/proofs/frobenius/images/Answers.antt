@@ -2,7 +2,7 @@ use Rattle.std.proofs.Common.{◌≡◌, ◌-◌, ◌*◌, ap, ◌∙◌, arith}
 use Rattle.ring_core.specs.Coeffs.{first_values}
 use Rattle.ring_core.proofs.Coefficients.{values_more}
 use Rattle.residue_field.specs.Top.{top_ops}
-use Rattle.field_tower.specs.Images.{frob_image}
+use Rattle.field_tower.specs.steps.Images.{frob_image}
 use Rattle.field_tower.proofs.frobenius.images.Goals as goal
 
 pub loop-m-preserved : goal.loop-m-preserved

@@ -1,6 +1,6 @@
 use Rattle.std.proofs.Common.{◌≡◌}
 use Rattle.ring_core.specs.Coeffs.{first_values}
-use Rattle.field_tower.specs.Images.{frob_image}
+use Rattle.field_tower.specs.steps.Images.{frob_image}
 use Rattle.field_tower.proofs.frobenius.images.Given as goal
 
 abbrev pub invariant-loop-m : goal.invariant-loop-m

@@ -2,7 +2,7 @@ use Rattle.std.proofs.Common.{rules, ◌≡◌, ◌-◌, ◌<◌, ◌≤◌, len
 use Rattle.ring_core.specs.Ring.{IsElem}
 use Rattle.ring_core.specs.Powers.{power_of}
 use Rattle.residue_field.specs.Top.{top_ops}
-use Rattle.field_tower.specs.Images.{frob_image, image_at}
+use Rattle.field_tower.specs.steps.Images.{frob_image, image_at}
 use Rattle.field_tower.proofs.TopValues.{shape_from, stored-top}
 use Rattle.field_tower.proofs.FrobMap.{image-read, images_count, image_in, image_first, image_next}
 use Rattle.field_tower.proofs.frobenius.next_image.Goals as goal

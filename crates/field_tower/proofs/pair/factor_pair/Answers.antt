@@ -3,7 +3,7 @@ use Rattle.ring_core.specs.Ring.{IsElem}
 use Rattle.finite_ring.specs.Finite.{root_product}
 use Rattle.residue_field.specs.Residue.{constant_at}
 use Rattle.residue_field.specs.TopElem.{top_places}
-use Rattle.field_tower.specs.Places.{stored_ops}
+use Rattle.field_tower.specs.steps.Places.{stored_ops}
 use Rattle.field_tower.proofs.Stored.{one_stored, one_in}
 use Rattle.field_tower.proofs.StoredValues.{factor_in}
 use Rattle.field_tower.proofs.ConstantValues.{code_elem}
@@ -15,7 +15,7 @@ loop-c-init g c =
     let r = g.F.Field.ops c.args.field.now in
     let codes = c.requires.constants in
     let modulus = c.args.modulus.now in
-    let one = one_stored r modulus (c.constant-product.ensures (length modulus - 2)) c.one.ensures in
+    let one = one_stored r modulus (c.constant-product.ensures (length modulus - 2)) c.one.ensures.value in
     record {
       elem = one_in r codes.ring modulus c.requires.monic codes.commutes one;
       value = one;

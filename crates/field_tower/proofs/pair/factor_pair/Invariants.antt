@@ -3,7 +3,7 @@ use Rattle.ring_core.specs.Ring.{IsElem}
 use Rattle.finite_ring.specs.Finite.{root_product}
 use Rattle.residue_field.specs.Residue.{constant_at}
 use Rattle.residue_field.specs.TopElem.{top_places}
-use Rattle.field_tower.specs.Places.{stored_ops}
+use Rattle.field_tower.specs.steps.Places.{stored_ops}
 use Rattle.field_tower.proofs.pair.factor_pair.Given as goal
 
 abbrev pub invariant-loop-c : goal.invariant-loop-c

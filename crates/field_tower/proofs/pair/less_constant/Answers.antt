@@ -1,6 +1,6 @@
 use Rattle.std.proofs.Common.{◌-◌, length, sym, ap, subst, ◌∙◌, arith}
 use Rattle.ring_core.specs.Ring.{IsElem}
-use Rattle.field_tower.specs.Places.{stored_ops}
+use Rattle.field_tower.specs.steps.Places.{stored_ops}
 use Rattle.field_tower.proofs.Stored.{sum_made, negative_made, stored_at, constant_made}
 use Rattle.field_tower.proofs.StoredValues.{constant_in, negative_in}
 use Rattle.field_tower.proofs.pair.less_constant.Goals as goal

@@ -8,7 +8,7 @@ loop-i-init g c =
     let r = g.F.Field.ops c.args.field.now in
     let codes = c.requires.constants in
     let modulus = c.args.modulus.now in
-    let one = one_stored r modulus (c.constant-power.ensures (length modulus - 2)) c.one.ensures in
+    let one = one_stored r modulus (c.constant-power.ensures (length modulus - 2)) c.one.ensures.value in
     record {
       elem = one_in r codes.ring modulus c.requires.monic codes.commutes one;
       value = one;

@@ -14,7 +14,7 @@ loop-i-preserved g c =
       width = length-set c.loop-i.places i _ ∙ width;
       done =
           λ j (l : j < i + 1).
-          written r c.loop-i.places i _ (λ j. r.add (coeff r c.args.a.0 j) (coeff r c.args.b.0 j)) j (omega arith) (c.add.ensures ∙ ap₂ r.add c.coeff_at.ensures.value c.coeff_at-in-loop-i.ensures.value) (λ (d : j ≢ i). before.done j (omega arith));
+          written r c.loop-i.places i _ (λ j. r.add (coeff r c.args.a.0 j) (coeff r c.args.b.0 j)) j (omega arith) (c.add.ensures.value ∙ ap₂ r.add c.coeff_at.ensures.value c.coeff_at-in-loop-i.ensures.value) (λ (d : j ≢ i). before.done j (omega arith));
       rest = λ j (l : i + 1 ≤ j). let d : j ≢ i = omega arith in unwritten r c.loop-i.places i _ j d (before.rest j (omega arith));
     }
 

@@ -3,7 +3,7 @@ use Rattle.ring_core.specs.Coeffs.{coeff}
 use Rattle.ring_core.proofs.Coefficients.{elem_read}
 use Rattle.residue_field.specs.declared.TheConstants.{WIDTH}
 use Rattle.residue_field.specs.Residue.{constant_at, shifted, residue}
-use Rattle.field_tower.specs.Places.{stored}
+use Rattle.field_tower.specs.steps.Places.{stored}
 use Rattle.field_tower.proofs.Writes.{written, unwritten}
 use Rattle.field_tower.proofs.Stored.{stored_from}
 use Rattle.field_tower.proofs.Letter.{letter_low, letter_one, letter_zero}
@@ -24,7 +24,7 @@ returns-then-modulus-eq2 g c =
     let read = elem_read r modulus ring.closed.zero_in c.requires.elems in
     stored_from r d _ z (length-set zeros 0 _ ∙ width)
     (λ j (l : j < suc d).
-    written r zeros 0 _ z j (omega arith) (c.neg.ensures ∙ ap r.neg c.coeff_at.ensures.value ∙ letter_low r ring d f read none)
+    written r zeros 0 _ z j (omega arith) (c.neg.ensures.value ∙ ap r.neg c.coeff_at.ensures.value ∙ letter_low r ring d f read none)
     (λ (e : j ≢ 0). absurd (e (omega arith))))
     (λ j (l : suc d ≤ j). let e : j ≢ 0 = omega arith in unwritten r zeros 0 _ j e (c.zeros-places.ensures.values j))
 
@@ -44,6 +44,6 @@ returns-else-modulus-eq2 g c =
     let read = elem_read r modulus ring.closed.zero_in c.requires.elems in
     stored_from r d _ z (length-set zeros 1 _ ∙ width)
     (λ j (l : j < suc d).
-    written r zeros 1 _ z j (omega arith) (c.one.ensures ∙ letter_one r ring d f read some)
+    written r zeros 1 _ z j (omega arith) (c.one.ensures.value ∙ letter_one r ring d f read some)
     (λ (e : j ≢ 1). c.zeros-places.ensures.values j ∙ letter_zero r ring d f read some j e))
     (λ j (l : suc d ≤ j). let e : j ≢ 1 = omega arith in unwritten r zeros 1 _ j e (c.zeros-places.ensures.values j))

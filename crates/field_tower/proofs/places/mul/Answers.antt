@@ -4,7 +4,7 @@ use Rattle.ring_core.specs.Coeffs.{coeff}
 use Rattle.residue_field.specs.declared.TheConstants.{WIDTH}
 use Rattle.residue_field.specs.Residue.{residue, product}
 use Rattle.residue_field.proofs.TopPlaces.{elems_of}
-use Rattle.field_tower.specs.Places.{stored, stored_ops}
+use Rattle.field_tower.specs.steps.Places.{stored, stored_ops}
 use Rattle.field_tower.proofs.Stored.{fits_of, stores_of, stored_from, stored_ring}
 use Rattle.field_tower.proofs.places.mul.Goals as goal
 

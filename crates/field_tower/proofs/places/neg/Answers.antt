@@ -14,7 +14,7 @@ loop-i-preserved g c =
       width = length-set c.loop-i.places i _ ∙ width;
       done =
           λ j (l : j < i + 1).
-          written r c.loop-i.places i _ (λ j. r.neg (coeff r c.args.a.0 j)) j (omega arith) (c.neg.ensures ∙ ap r.neg c.coeff_at.ensures.value) (λ (d : j ≢ i). before.done j (omega arith));
+          written r c.loop-i.places i _ (λ j. r.neg (coeff r c.args.a.0 j)) j (omega arith) (c.neg.ensures.value ∙ ap r.neg c.coeff_at.ensures.value) (λ (d : j ≢ i). before.done j (omega arith));
       rest = λ j (l : i + 1 ≤ j). let d : j ≢ i = omega arith in unwritten r c.loop-i.places i _ j d (before.rest j (omega arith));
     }
 

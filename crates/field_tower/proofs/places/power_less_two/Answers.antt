@@ -1,6 +1,6 @@
 use Rattle.std.proofs.Common.{◌≡◌, ◌+◌, ◌-◌, ◌^◌, length, ap, ap₂, ◌∙◌, arith}
 use Rattle.ring_core.specs.Powers.{power_of}
-use Rattle.field_tower.specs.Places.{stored_ops}
+use Rattle.field_tower.specs.steps.Places.{stored_ops}
 use Rattle.field_tower.proofs.Stored.{stored_ring, one_stored, one_in}
 use Rattle.field_tower.proofs.PowerSteps.{power_empty, power_digits}
 use Rattle.field_tower.proofs.places.power_less_two.Goals as goal
@@ -10,7 +10,7 @@ loop-i-init g c =
     let r = g.F.Field.ops c.args.field.now in
     let field = g.met.F.Field.laws c.args.field.now in
     let modulus = c.args.modulus.now in
-    let is = one_stored r modulus (c.constant-result.ensures (length modulus - 2)) c.one.ensures in
+    let is = one_stored r modulus (c.constant-result.ensures (length modulus - 2)) c.one.ensures.value in
     record {
       elem = one_in r field.ring modulus c.requires.monic field.mul_comm is;
       value = is ∙ power_empty (stored_ops r modulus) c.args.a c.args.q;
@@ -31,8 +31,8 @@ loop-i-preserved g c =
           ∙ power_digits ops ring c.args.a c.requires.elem c.args.q c.loop-i._i 1 (omega arith) (omega arith);
     }
 
-pub returns : goal.returns
-returns g c =
+pub returns-clause-value : goal.returns-clause-value
+returns-clause-value g c =
     let r = g.F.Field.ops c.args.field.now in
     let field = g.met.F.Field.laws c.args.field.now in
     let modulus = c.args.modulus.now in

@@ -1,7 +1,7 @@
 use Rattle.std.proofs.Common.{◌≡◌, ◌^◌, ◌-◌}
 use Rattle.ring_core.specs.Ring.{IsElem}
 use Rattle.ring_core.specs.Powers.{power_of}
-use Rattle.field_tower.specs.Places.{stored_ops}
+use Rattle.field_tower.specs.steps.Places.{stored_ops}
 use Rattle.field_tower.proofs.places.power_less_two.Given as goal
 
 abbrev pub invariant-loop-i : goal.invariant-loop-i

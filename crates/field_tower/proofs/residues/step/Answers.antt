@@ -1,7 +1,8 @@
 use Rattle.std.proofs.Common.{◌≡◌, ◌≢◌, ◌-◌, ◌<◌, ◌≤◌, length, ap, ap₂, ◌∙◌, arith}
 use Rattle.ring_core.specs.Coeffs.{coeff}
 use Rattle.residue_field.specs.Residue.{times_x}
-use Rattle.field_tower.proofs.Writes.{elems-set, written, unwritten, shifted_same}
+use Rattle.ring_core.proofs.Coefficients.{elems_set}
+use Rattle.field_tower.proofs.Writes.{written, unwritten, shifted_same}
 use Rattle.field_tower.proofs.residues.step.Goals as goal
 
 pub loop-i-preserved : goal.loop-i-preserved
@@ -18,7 +19,7 @@ loop-i-preserved g c =
     (shifted_same r (coeff r c.loop-i.out) old i (λ j (l : j < i). before.below j (omega arith)))
     (c.coeff_at-top.ensures.value ∙ ap old top_place) in
     record {
-      elems = elems-set r c.loop-i.out i _ before.elems c.step_at-next.ensures.elem;
+      elems = elems_set r c.loop-i.out i _ before.elems c.step_at-next.ensures.elem;
       done =
           λ j (l : i ≤ j) (m : j < (length modulus - 1)).
           written r c.loop-i.out i _ (λ k. r.add (r.mul c.args.c (coeff r c.args.b.now k)) (times_x r (length modulus - 2) (coeff r modulus) old k)) j (omega arith)

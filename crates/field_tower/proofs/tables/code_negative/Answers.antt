@@ -7,7 +7,7 @@ use Rattle.residue_field.specs.Base.{base_ops}
 use Rattle.residue_field.proofs.Modular.{prime_ring}
 use Rattle.residue_field.proofs.Listed.{listed_large}
 use Rattle.residue_field.proofs.DigitLaws.{number-same}
-use Rattle.field_tower.specs.Places.{IsStored, stored}
+use Rattle.field_tower.specs.steps.Places.{IsStored, stored}
 use Rattle.field_tower.proofs.Stored.{fits_of, stored_in}
 use Rattle.field_tower.proofs.CodeDigits.{digits_are, digits_stored, digits_below, number-stored}
 use Rattle.field_tower.proofs.tables.code_negative.Goals as goal

@@ -8,7 +8,7 @@ use Rattle.residue_field.specs.Residue.{residue, product}
 use Rattle.residue_field.specs.Base.{base_ops}
 use Rattle.residue_field.proofs.Modular.{prime_ring}
 use Rattle.residue_field.proofs.Listed.{listed_large}
-use Rattle.field_tower.specs.Places.{stored, stored_ops}
+use Rattle.field_tower.specs.steps.Places.{stored, stored_ops}
 use Rattle.field_tower.proofs.Stored.{fits_of}
 use Rattle.field_tower.proofs.CodeDigits.{digits_are, digits_stored, digits_below, number-stored}
 use Rattle.field_tower.proofs.tables.code_product.Goals as goal

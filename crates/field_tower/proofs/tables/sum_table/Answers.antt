@@ -3,7 +3,7 @@ use Rattle.ring_core.specs.Coeffs.{first_values}
 use Rattle.ring_core.proofs.Coefficients.{values_more}
 use Rattle.residue_field.specs.Prime.{prime_ops}
 use Rattle.residue_field.specs.Base.{base_ops}
-use Rattle.residue_field.proofs.Tables.{filled}
+use Rattle.field_tower.proofs.FilledTables.{filled}
 use Rattle.field_tower.proofs.tables.sum_table.Goals as goal
 
 pub loop-m-preserved : goal.loop-m-preserved

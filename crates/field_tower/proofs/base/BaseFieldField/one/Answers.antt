@@ -1,6 +1,11 @@
-use Rattle.std.proofs.Common.{◌-◌, sym}
+use Rattle.std.proofs.Common.{◌-◌, sym, ap, ◌∙◌}
 use Rattle.field_tower.proofs.BaseValues.{base-one}
+use Rattle.residue_field.specs.Base.{ops_of}
+use Rattle.residue_field.proofs.BaseLaws.{base_ring}
 use Rattle.field_tower.proofs.base.BaseFieldField.one.Goals as goal
 
-pub returns : goal.returns
-returns c = let k = c.args.self.now in sym (base-one k.p (k.s - 1) k.modulus)
+pub returns-clause-value : goal.returns-clause-value
+returns-clause-value c = let k = c.args.self.now in sym (base-one k.p (k.s - 1) k.modulus)
+
+pub returns-clause-elem : goal.returns-clause-elem
+returns-clause-elem c = ap (ops_of c.args.self.now).is_elem (returns-clause-value c) ∙ (base_ring c.args.self.now).closed.one_in

@@ -5,7 +5,7 @@ use Rattle.ring_core.specs.Powers.{power_of}
 use Rattle.residue_field.specs.TopElem.{top_places}
 use Rattle.residue_field.specs.Base.{ops_of, size_of}
 use Rattle.residue_field.specs.Top.{ops_of_top}
-use Rattle.field_tower.specs.Places.{stored}
+use Rattle.field_tower.specs.steps.Places.{stored}
 use Rattle.field_tower.proofs.BaseValues.{size_large}
 use Rattle.field_tower.proofs.TopValues.{ops-inside, top-same_zero, top_elems, inverse_nothing, inverse_power}
 use Rattle.field_tower.proofs.tower.TowerField.inv.Goals as goal
@@ -22,8 +22,8 @@ pub power_less_two-requires-clause-elem : goal.power_less_two-requires-clause-el
 power_less_two-requires-clause-elem c =
     subst (λ r. IsElem r c.args.a) (sym (ops-inside _ c.args.self.now c.self.view_is _ c.deref.ensures.value)) c.requires
 
-pub returns-then-is_zero : goal.returns-then-is_zero
-returns-then-is_zero c =
+pub returns-then-is_zero-clause-value : goal.returns-then-is_zero-clause-value
+returns-then-is_zero-clause-value c =
     let a = c.args.a in
     let inside = c.self.inside in
     inverse_nothing c.args.self.now a
@@ -31,15 +31,19 @@ returns-then-is_zero c =
     ∙ sym (c.is_zero.ensures (inside.n - 1) ∙ ap (λ t. (top_places (ops_of t.base) (t.n - 1)).same a (stored (ops_of t.base) (t.n - 1) (λ i. (ops_of t.base).zero))) c.self.view_is)
     ∙ c.if-is_zero.true)
 
-pub returns-else-is_zero : goal.returns-else-is_zero
-returns-else-is_zero c =
+pub returns-else-is_zero-clause-value : goal.returns-else-is_zero-clause-value
+returns-else-is_zero-clause-value c =
     let a = c.args.a in
     let inside = c.self.inside in
     inverse_power c.args.self.now a c.power_less_two.result
     (sym (top-same_zero c.args.self.now a)
     ∙ sym (c.is_zero.ensures (inside.n - 1) ∙ ap (λ t. (top_places (ops_of t.base) (t.n - 1)).same a (stored (ops_of t.base) (t.n - 1) (λ i. (ops_of t.base).zero))) c.self.view_is)
     ∙ c.if-is_zero.false)
-    (c.power_less_two.ensures
+    (c.power_less_two.ensures.value
     ∙ ap (λ r. power_of r a (c.q.result ^ inside.n - 2)) (ops-inside _ c.args.self.now c.self.view_is _ c.deref.ensures.value)
     ∙ ap (λ q. power_of (ops_of_top c.args.self.now) a (q ^ inside.n - 2)) c.q.ensures.value
     ∙ ap (λ t. power_of (ops_of_top c.args.self.now) a (size_of t.base ^ t.n - 2)) c.self.view_is)
+
+pub returns-else-is_zero-clause-elem : goal.returns-else-is_zero-clause-elem
+returns-else-is_zero-clause-elem c =
+    subst (λ r. IsElem r c.power_less_two.result) (ops-inside _ c.args.self.now c.self.view_is _ c.deref.ensures.value) c.power_less_two.ensures.elem

@@ -1,6 +1,8 @@
 use Rattle.std.proofs.Common.{sym, ap, subst, ◌∙◌}
 use Rattle.ring_core.specs.Ring.{IsElem}
 use Rattle.field_tower.proofs.TopValues.{ops-inside}
+use Rattle.residue_field.specs.Top.{ops_of_top}
+use Rattle.residue_field.proofs.TopLaws.{top_ring}
 use Rattle.field_tower.proofs.tower.TowerField.mul.Goals as goal
 
 pub mul-requires-clause-left : goal.mul-requires-clause-left
@@ -11,6 +13,9 @@ pub mul-requires-clause-right : goal.mul-requires-clause-right
 mul-requires-clause-right c =
     subst (λ r. IsElem r c.args.b) (sym (ops-inside _ c.args.self.now c.self.view_is _ c.deref.ensures.value)) c.requires.right
 
-pub returns : goal.returns
-returns c =
+pub returns-clause-value : goal.returns-clause-value
+returns-clause-value c =
     c.mul.ensures.value ∙ ap (λ r. r.mul c.args.a c.args.b) (ops-inside _ c.args.self.now c.self.view_is _ c.deref.ensures.value)
+
+pub returns-clause-elem : goal.returns-clause-elem
+returns-clause-elem c = ap (ops_of_top c.args.self.now).is_elem (returns-clause-value c) ∙ (top_ring c.args.self.now).closed.mul_in _ _ c.requires.left c.requires.right

@@ -1,12 +1,17 @@
 use Rattle.std.proofs.Common.{◌-◌, ap, ◌∙◌}
 use Rattle.residue_field.specs.Base.{ops_of}
 use Rattle.residue_field.specs.Residue.{constant_at}
-use Rattle.field_tower.specs.Places.{stored}
+use Rattle.field_tower.specs.steps.Places.{stored}
 use Rattle.field_tower.proofs.TopValues.{top-one}
+use Rattle.residue_field.specs.Top.{ops_of_top}
+use Rattle.residue_field.proofs.TopLaws.{top_ring}
 use Rattle.field_tower.proofs.tower.TowerField.one.Goals as goal
 
-pub returns : goal.returns
-returns c =
+pub returns-clause-value : goal.returns-clause-value
+returns-clause-value c =
     let inside = c.self.inside in
-    c.constant.ensures (inside.n - 1) ∙ ap (λ x. stored (ops_of inside.base) (inside.n - 1) (constant_at (ops_of inside.base) x)) c.one.ensures
+    c.constant.ensures (inside.n - 1) ∙ ap (λ x. stored (ops_of inside.base) (inside.n - 1) (constant_at (ops_of inside.base) x)) c.one.ensures.value
     ∙ ap (λ t. stored (ops_of t.base) (t.n - 1) (constant_at (ops_of t.base) (ops_of t.base).one)) c.self.view_is ∙ top-one c.args.self.now
+
+pub returns-clause-elem : goal.returns-clause-elem
+returns-clause-elem c = ap (ops_of_top c.args.self.now).is_elem (returns-clause-value c) ∙ (top_ring c.args.self.now).closed.one_in

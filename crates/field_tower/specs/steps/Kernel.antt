@@ -5,11 +5,11 @@ use Rattle.ring_core.specs.Coeffs.{coeff, first_values}
 use Rattle.ring_core.specs.Powers.{power_of}
 use Rattle.linear_algebra.specs.Linear.{entry}
 use Rattle.residue_field.specs.declared.TopElem.{TopElem}
-use Rattle.residue_field.specs.Residue.{residue_unit}
+use Rattle.residue_field.specs.steps.Stored.{residue_unit}
 use Rattle.residue_field.specs.TopElem.{top_places}
 use Rattle.field_tower.specs.declared.accept.LinearMap.{LinearMap}
 use Rattle.field_tower.specs.declared.accept.LinearMap.TheVariants.{Power, Difference}
-use Rattle.field_tower.specs.Places.{stored, stored_ops}
+use Rattle.field_tower.specs.steps.Places.{stored, stored_ops}
 
 -- The power `q` of `x`, or that power less `x`.
 abbrev pub image_of : {E : Type 0} → RingOps E → ℕ → LinearMap → E → E

@@ -5,7 +5,7 @@ use Rattle.ring_core.specs.Coeffs.{coeff}
 use Rattle.ring_core.specs.Powers.{power_of}
 use Rattle.linear_algebra.specs.Combines.{combined as combined_rows}
 use Rattle.residue_field.specs.declared.TopElem.{TopElem}
-use Rattle.residue_field.specs.Residue.{residue_unit}
+use Rattle.residue_field.specs.steps.Stored.{residue_unit}
 use Rattle.residue_field.specs.TopElem.{top_places}
 use Rattle.residue_field.specs.Base.{Base, ops_of, size_of}
 use Rattle.residue_field.specs.Top.{top_ops}
@@ -22,5 +22,5 @@ image_at images k = slice_index_or images k (record { 0 = [] })
 
 -- Coefficient `l` of the sum of the `n` images from the place `start` on, each multiplied with the
 -- coefficient of `c` at its place.
-unfoldable pub combined : RingOps ℕ → ℕ → List TopElem → ℕ → TopElem → ℕ → ℕ
-combined r n images start c = combined_rows r n (coeff r c.0) (λ j. coeff r (image_at images (start + j)).0)
+unfoldable pub combined_images : RingOps ℕ → ℕ → List TopElem → ℕ → TopElem → ℕ → ℕ
+combined_images r n images start c = combined_rows r n (coeff r c.0) (λ j. coeff r (image_at images (start + j)).0)

@@ -1,8 +1,0 @@
-use Rattle.std.proofs.Common.{◌≡◌}
-use Rattle.ring_core.specs.Coeffs.{coeff, first_values}
-use Rattle.field_tower.proofs.min_poly.monic_relation.Given as goal
-
-abbrev pub invariant-loop-i : goal.invariant-loop-i
-invariant-loop-i g l =
-    let r = g.F.Field.ops l.f in
-    l.relation.items ≡ first_values l.i (λ i. r.neg (coeff r l.list i))

@@ -1,0 +1,7 @@
+-- What the functions behind the public calls do, which only their own contracts cite.
+pub mod Places
+pub mod Constants
+pub mod Kernel
+pub mod Images
+pub mod Tables
+pub mod Parts
