@@ -1,0 +1,4 @@
+pub mod Division
+pub mod Divisor
+pub mod Multiple
+pub mod steps
