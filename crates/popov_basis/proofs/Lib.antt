@@ -1,0 +1,7 @@
+mod Leads
+mod Clearing
+mod SameModule
+mod StandardBasis
+mod Dividing
+mod RelationBasis
+mod Members
