@@ -1,6 +1,6 @@
 -- The values of sums in a field, and of sums that are polynomials over it.
 use Rattle.std.specs.Prelude.{ℕ, Bool, List, [], fold, map, if◌then◌else◌}
-use Rattle.ring_core.specs.Ring.{RingOps, IsElem}
+use Rattle.ring_core.specs.Ring.{RingOps}
 use Rattle.ring_core.specs.Powers.{power_of}
 use Rattle.ring_core.specs.Monomial.{monomial}
 use Rattle.ring_core.specs.Twisted.{list_add}
@@ -15,12 +15,6 @@ pub record Letters (E : Type 0) : Type 0 where
   pub number : ℕ → E
   pub a : E
   pub z : E
-
--- They are elements.
-pub record AreIn {E : Type 0} (r : RingOps E) (l : Letters E) : Type 0 where
-  pub number_in : (n : ℕ) → IsElem r (l.number n)
-  pub a_in : IsElem r l.a
-  pub z_in : IsElem r l.z
 
 -- A factor, where a sum in parentheses has its value.
 abbrev pub factor_step : {E : Type 0} → RingOps E → Letters E → Factor-F E E E → E

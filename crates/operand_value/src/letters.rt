@@ -1,5 +1,6 @@
 ghost use Rattle.std.specs.Prelude.{◌≡◌};
-ghost use Rattle.operand_value.specs.Values.{Letters, AreIn};
+ghost use Rattle.ring_core.specs.Ring.{IsElem};
+ghost use Rattle.operand_value.specs.Values.{Letters};
 
 use ring_core::Field;
 
@@ -9,15 +10,16 @@ pub trait Letters: Field {
 
     /// The number `n`.
     fn number(&self, n: u32) -> Self::Elem
-        ensures { result ≡ (letters self.now).number n };
+        ensures value { result ≡ (letters self.now).number n }
+        ensures elem { IsElem (Self.ops self.now) result };
 
     /// The letter `a`.
     fn a(&self) -> Self::Elem
-        ensures { result ≡ (letters self.now).a };
+        ensures value { result ≡ (letters self.now).a }
+        ensures elem { IsElem (Self.ops self.now) result };
 
     /// The letter `z`.
     fn z(&self) -> Self::Elem
-        ensures { result ≡ (letters self.now).z };
-
-    ghost letters_in: { (k : Self) → AreIn (Self.ops k) (letters k) };
+        ensures value { result ≡ (letters self.now).z }
+        ensures elem { IsElem (Self.ops self.now) result };
 }

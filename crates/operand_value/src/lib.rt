@@ -1,10 +1,13 @@
 //! The values of sums and of lists of sums in the fields, and the polynomials that sums are.
 #![tactic(auto)]
 
+mod fields;
 mod letters;
+mod operands;
 mod poly;
 mod value;
 
 pub use letters::Letters;
+pub use operands::{base_modulus, list_values, top_modulus, twisted_sum};
 pub use poly::poly_value;
 pub use value::{sum_value, sum_values};
