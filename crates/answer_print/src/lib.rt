@@ -1,0 +1,10 @@
+//! The texts of answers, appended to a buffer.
+#![tactic(auto)]
+
+mod answers;
+mod elements;
+mod printer;
+mod sums;
+mod terms;
+
+pub use answers::write_answer;
