@@ -1,6 +1,6 @@
 //! How long the reader of scripts takes.
 
-use script_parse::{SCRIPT_LIMIT, parse};
+use script_parse::{Limits, parse};
 use std::io;
 use std::time::Instant;
 use text_io::{StdSource, read_limited};
@@ -8,7 +8,7 @@ use text_io::{StdSource, read_limited};
 /// Prints what one call of `parse` takes on the script that standard input gives.
 pub(super) fn print_parse(rt: &HostRuntime) -> io::Result<()> {
     let mut input = StdSource::new(rt.stdin());
-    let Ok(bytes) = read_limited(rt.alloc(), &mut input, SCRIPT_LIMIT) else {
+    let Ok(bytes) = read_limited(rt.alloc(), &mut input, Limits::version_1().script) else {
         return Err(io::Error::from(io::ErrorKind::InvalidData));
     };
     let start = Instant::now(rt)?;

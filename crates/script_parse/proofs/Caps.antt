@@ -1,6 +1,6 @@
 -- A line's tokens with whole numbers, and those with numbers up to a cap: they are statements alike,
 -- and pass the same limit; where they pass none, they are the same.
-use Rattle.std.proofs.Common.{◌≡◌, ℕ, Bool, true, false, ◌||◌, ◌&&◌, nat_lt, if◌then◌else◌, Option, Some, None, List, [], ◌∷◌, refl, sym, ap, ◌∙◌, subst, arith}
+use Rattle.std.proofs.Common.{◌≡◌, ℕ, ◌+◌, Bool, true, false, ◌||◌, ◌&&◌, nat_lt, if◌then◌else◌, Option, Some, None, List, [], ◌∷◌, refl, sym, ap, ◌∙◌, subst, arith}
 use Rattle.std.proofs.lemmas.Bool.Decides.{nat_tests}
 use Rattle.std.specs.List.{take_while, list_any}
 use Rattle.std.specs.Option.{option_or}
@@ -19,6 +19,8 @@ use Rattle.script_statement.specs.declared.Verb.{Verb}
 use Rattle.script_statement.specs.Statements.{IsVerb, IsOperands, IsStatement}
 use Rattle.script_statement.proofs.OneForm.{verb_once}
 use Rattle.script_parse.specs.declared.line.Line.TheVariants as line
+use Rattle.script_parse.specs.Version.{Limits}
+use Rattle.script_parse.specs.steps.Fit.{AreFit}
 use Rattle.script_parse.specs.Exact.{IsExact, StandsFor}
 use Rattle.script_parse.specs.Limits.{over_limit, place_limit, is_bounded, number_limit, is_empty, passes, first_limit, is_as, is_naming, gives_name, line_limit}
 use Rattle.script_parse.specs.Says.{LineSays}
@@ -67,85 +69,86 @@ tokens_exact (IsTokens.next (BeginsWith.a_word {b = b} {bs = bs} h) x) =
     let e = tokens_exact x in
     (word_token (take_while is_word_byte (b ∷ bs)) ∷ e.0, IsExact.exact_word {b = b} {bs = bs} h e.1, Caps.cap_same e.2)
 
-capped_within : (n : ℕ) → nat_lt 999999999 n ≡ false → capped n ≡ n
-capped_within n e = grind (arith, nat_tests)
+-- A limit below the cap is passed by a number and by the capped one alike.
+capped_within : (most n : ℕ) → capped (most + 1) ≡ most + 1 → nat_lt most n ≡ false → capped n ≡ n
+capped_within most n h e = grind (arith, nat_tests)
 
-within_capped : (n : ℕ) → nat_lt 999999999 (capped n) ≡ false → capped n ≡ n
-within_capped n e = grind (arith, nat_tests)
+within_capped : (most n : ℕ) → capped (most + 1) ≡ most + 1 → nat_lt most (capped n) ≡ false → capped n ≡ n
+within_capped most n h e = grind (arith, nat_tests)
 
-capped_over : (n : ℕ) → nat_lt 999999999 n ≡ true → nat_lt 999999999 (capped n) ≡ true
-capped_over n e = grind (arith, nat_tests)
+capped_over : (most n : ℕ) → capped (most + 1) ≡ most + 1 → nat_lt most n ≡ true → nat_lt most (capped n) ≡ true
+capped_over most n h e = grind (arith, nat_tests)
 
-number_over : (v : Verb) (before : List Token) (n : ℕ) (behind : List Token) → nat_lt 999999999 n ≡ true → number_limit v before n behind ≡ Some size.Number
-number_over v before n behind e = cc
+number_over : (lim : Limits) → (v : Verb) (before : List Token) (n : ℕ) (behind : List Token) → nat_lt lim.number n ≡ true → number_limit lim v before n behind ≡ Some size.Number
+number_over lim v before n behind e = cc
 
 empties : {ts us : List Token} → Caps ts us → is_empty ts ≡ is_empty us
 empties Caps.no_caps = refl
 empties (Caps.cap_number x) = refl
 empties (Caps.cap_same x) = refl
 
-number_behind : (v : Verb) (before : List Token) (n : ℕ) (ts us : List Token) → is_empty ts ≡ is_empty us → number_limit v before n ts ≡ number_limit v before n us
-number_behind v before n ts us e =
-    ap (λ b. if nat_lt 999999999 n then Some size.Number else if is_bounded v && b then over_limit 64 n size.Bound else place_limit v before n) e
+number_behind : (lim : Limits) → (v : Verb) (before : List Token) (n : ℕ) (ts us : List Token) → is_empty ts ≡ is_empty us → number_limit lim v before n ts ≡ number_limit lim v before n us
+number_behind lim v before n ts us e =
+    ap (λ b. if nat_lt lim.number n then Some size.Number else if is_bounded v && b then over_limit lim.bound n size.Bound else place_limit lim v before n) e
 
-passes_behind : (v : Verb) (before : List Token) (t : Token) (ts us : List Token) → is_empty ts ≡ is_empty us → passes v before t ts ≡ passes v before t us
-passes_behind v before (token.Number n) ts us e = number_behind v before n ts us e
-passes_behind v before (token.Word w) ts us e = refl
-passes_behind v before (token.Letter l) ts us e = refl
-passes_behind v before token.As ts us e = refl
-passes_behind v before (token.Sign s) ts us e = refl
+passes_behind : (lim : Limits) → (v : Verb) (before : List Token) (t : Token) (ts us : List Token) → is_empty ts ≡ is_empty us → passes lim v before t ts ≡ passes lim v before t us
+passes_behind lim v before (token.Number n) ts us e = number_behind lim v before n ts us e
+passes_behind lim v before (token.Word w) ts us e = refl
+passes_behind lim v before (token.Letter l) ts us e = refl
+passes_behind lim v before token.As ts us e = refl
+passes_behind lim v before (token.Sign s) ts us e = refl
 
-number_same : (v : Verb) (before : List Token) (n : ℕ) (ts us : List Token) → is_empty ts ≡ is_empty us
-    → first_limit v (token.Number n ∷ before) ts ≡ first_limit v (token.Number n ∷ before) us
-    → (b : Bool) → nat_lt 999999999 n ≡ b → first_limit v before (token.Number n ∷ ts) ≡ first_limit v before (token.Number (capped n) ∷ us)
-number_same v before n ts us a h true e =
-    let f = number_over v before n ts e in
-    let g = number_over v before (capped n) us (capped_over n e) in
-    ap (λ k. option_or k (first_limit v (token.Number n ∷ before) ts)) f ∙ sym (ap (λ k. option_or k (first_limit v (token.Number (capped n) ∷ before) us)) g)
-number_same v before n ts us a h false e =
-    let f : first_limit v before (token.Number n ∷ ts) ≡ first_limit v before (token.Number n ∷ us) = (λ i. option_or (number_behind v before n ts us a i) (h i)) in
-    subst (λ m. first_limit v before (token.Number n ∷ ts) ≡ first_limit v before (token.Number m ∷ us)) (sym (capped_within n e)) f
+number_same : (lim : Limits) → AreFit lim → (v : Verb) (before : List Token) (n : ℕ) (ts us : List Token) → is_empty ts ≡ is_empty us
+    → first_limit lim v (token.Number n ∷ before) ts ≡ first_limit lim v (token.Number n ∷ before) us
+    → (b : Bool) → nat_lt lim.number n ≡ b → first_limit lim v before (token.Number n ∷ ts) ≡ first_limit lim v before (token.Number (capped n) ∷ us)
+number_same lim fit v before n ts us a h true e =
+    let f = number_over lim v before n ts e in
+    let g = number_over lim v before (capped n) us (capped_over lim.number n fit.number e) in
+    ap (λ k. option_or k (first_limit lim v (token.Number n ∷ before) ts)) f ∙ sym (ap (λ k. option_or k (first_limit lim v (token.Number (capped n) ∷ before) us)) g)
+number_same lim fit v before n ts us a h false e =
+    let f : first_limit lim v before (token.Number n ∷ ts) ≡ first_limit lim v before (token.Number n ∷ us) = (λ i. option_or (number_behind lim v before n ts us a i) (h i)) in
+    subst (λ m. first_limit lim v before (token.Number n ∷ ts) ≡ first_limit lim v before (token.Number m ∷ us)) (sym (capped_within lim.number n fit.number e)) f
 
-limits_same : (v : Verb) (before : List Token) {ts us : List Token} → Caps ts us → first_limit v before ts ≡ first_limit v before us
-limits_same v before Caps.no_caps = refl
-limits_same v before (Caps.cap_same {t = t} {ts = ts} {us = us} x) = (λ i. option_or (passes_behind v before t ts us (empties x) i) (limits_same v (t ∷ before) x i))
-limits_same v before (Caps.cap_number {n = n} {ts = ts} {us = us} x) = number_same v before n ts us (empties x) (limits_same v (token.Number n ∷ before) x) (nat_lt 999999999 n) refl
+limits_same : (lim : Limits) → AreFit lim → (v : Verb) (before : List Token) {ts us : List Token} → Caps ts us → first_limit lim v before ts ≡ first_limit lim v before us
+limits_same lim fit v before Caps.no_caps = refl
+limits_same lim fit v before (Caps.cap_same {t = t} {ts = ts} {us = us} x) = (λ i. option_or (passes_behind lim v before t ts us (empties x) i) (limits_same lim fit v (t ∷ before) x i))
+limits_same lim fit v before (Caps.cap_number {n = n} {ts = ts} {us = us} x) = number_same lim fit v before n ts us (empties x) (limits_same lim fit v (token.Number n ∷ before) x) (nat_lt lim.number n) refl
 
-first_none : (a b : Option SizeKind) → option_or a b ≡ None → a ≡ None
+pub first_none : (a b : Option SizeKind) → option_or a b ≡ None → a ≡ None
 first_none None b e = refl
 first_none (Some k) b e = absurd cc
 
-second_none : (a b : Option SizeKind) → option_or a b ≡ None → b ≡ None
+pub second_none : (a b : Option SizeKind) → option_or a b ≡ None → b ≡ None
 second_none None b e = e
 second_none (Some k) b e = absurd cc
 
-number_none : (v : Verb) (before : List Token) (n : ℕ) (behind : List Token) (b : Bool) → nat_lt 999999999 n ≡ b → number_limit v before n behind ≡ None → b ≡ false
-number_none v before n behind false e f = refl
-number_none v before n behind true e f = let g = number_over v before n behind e in absurd cc
+number_none : (lim : Limits) → (v : Verb) (before : List Token) (n : ℕ) (behind : List Token) (b : Bool) → nat_lt lim.number n ≡ b → number_limit lim v before n behind ≡ None → b ≡ false
+number_none lim v before n behind false e f = refl
+number_none lim v before n behind true e f = let g = number_over lim v before n behind e in absurd cc
 
-caps_equal : (v : Verb) (before : List Token) {ts us : List Token} → Caps ts us → first_limit v before us ≡ None → ts ≡ us
-caps_equal v before Caps.no_caps e = refl
-caps_equal v before (Caps.cap_same {t = t} {us = us} x) e =
-    cons_same refl (caps_equal v (t ∷ before) x (second_none (passes v before t us) (first_limit v (t ∷ before) us) e))
-caps_equal v before (Caps.cap_number {n = n} {us = us} x) e =
+caps_equal : (lim : Limits) → AreFit lim → (v : Verb) (before : List Token) {ts us : List Token} → Caps ts us → first_limit lim v before us ≡ None → ts ≡ us
+caps_equal lim fit v before Caps.no_caps e = refl
+caps_equal lim fit v before (Caps.cap_same {t = t} {us = us} x) e =
+    cons_same refl (caps_equal lim fit v (t ∷ before) x (second_none (passes lim v before t us) (first_limit lim v (t ∷ before) us) e))
+caps_equal lim fit v before (Caps.cap_number {n = n} {us = us} x) e =
     let t = token.Number (capped n) in
-    let f = first_none (passes v before t us) (first_limit v (t ∷ before) us) e in
-    let g = number_none v before (capped n) us (nat_lt 999999999 (capped n)) refl f in
-    cons_same (ap token.Number (sym (within_capped n g))) (caps_equal v (t ∷ before) x (second_none (passes v before t us) (first_limit v (t ∷ before) us) e))
+    let f = first_none (passes lim v before t us) (first_limit lim v (t ∷ before) us) e in
+    let g = number_none lim v before (capped n) us (nat_lt lim.number (capped n)) refl f in
+    cons_same (ap token.Number (sym (within_capped lim.number n fit.number g))) (caps_equal lim fit v (t ∷ before) x (second_none (passes lim v before t us) (first_limit lim v (t ∷ before) us) e))
 
 as_same : {ts us : List Token} → Caps ts us → list_any is_as ts ≡ list_any is_as us
 as_same Caps.no_caps = refl
 as_same (Caps.cap_number x) = as_same x
 as_same (Caps.cap_same {t = t} x) = ap (λ b. is_as t || b) (as_same x)
 
-line_same : (s g : ℕ) (v : Verb) {ts us : List Token} → Caps ts us → line_limit s g v ts ≡ line_limit s g v us
-line_same s g v x =
+line_same : (lim : Limits) → AreFit lim → (s g : ℕ) (v : Verb) {ts us : List Token} → Caps ts us → line_limit lim s g v ts ≡ line_limit lim s g v us
+line_same lim fit s g v x =
     let a = ap (λ b. is_naming v || b) (as_same x) in
-    let b = limits_same v [] x in
+    let b = limits_same lim fit v [] x in
     cc
 
-line_within : (s g : ℕ) (v : Verb) (us : List Token) → line_limit s g v us ≡ None → first_limit v [] us ≡ None
-line_within s g v us e = grind (arith, nat_tests)
+pub line_within : (lim : Limits) (s g : ℕ) (v : Verb) (us : List Token) → line_limit lim s g v us ≡ None → first_limit lim v [] us ≡ None
+line_within lim s g v us e = grind (arith, nat_tests)
 
 -- The exact tokens of a line begin with the same verb, and the numbers of its operands are capped.
 verb_back : {ts us rest : List Token} {v : Verb} → Caps ts us → IsVerb us v rest → (more : List Token) × IsVerb ts v more × Caps more rest
@@ -178,18 +181,18 @@ no_operands_no_statement us rest v x h f (IsStatement.says {rest = more} y z) =
 pub no_operands_no_form : (l : List ℕ) (us rest : List Token) (v : Verb) → IsTokens (content l) us → IsVerb us v rest → ((f : Form) → IsOperands v rest f → ⊥) → (f : Form) → StandsFor l f → ⊥
 no_operands_no_form l us rest v y x h = no_statement_no_form l us y (no_operands_no_statement us rest v x h)
 
-pub size_said : (s g : ℕ) (l : List ℕ) (us rest : List Token) (v : Verb) (f : Form) (k : SizeKind) → is_blank l ≡ false → IsTokens (content l) us → IsVerb us v rest → IsOperands v rest f
-    → line_limit s g v rest ≡ Some k → LineSays s g l (line.Size k)
-size_said s g l us rest v f k b x w y e =
+pub size_said : (lim : Limits) → AreFit lim → (s g : ℕ) (l : List ℕ) (us rest : List Token) (v : Verb) (f : Form) (k : SizeKind) → is_blank l ≡ false → IsTokens (content l) us → IsVerb us v rest
+    → IsOperands v rest f → line_limit lim s g v rest ≡ Some k → LineSays lim s g l (line.Size k)
+size_said lim fit s g l us rest v f k b x w y e =
     let t = tokens_exact x in
     let i = verb_back t.2 w in
     let z = shape_operands y (caps_back i.2) in
-    LineSays.too_large b t.1 i.1 z.1 (line_same s g v i.2 ∙ e)
+    LineSays.too_large b t.1 i.1 z.1 (line_same lim fit s g v i.2 ∙ e)
 
-pub form_said : (s g : ℕ) (l : List ℕ) (us rest : List Token) (v : Verb) (f : Form) (named : Bool) → is_blank l ≡ false → IsTokens (content l) us → IsVerb us v rest → IsOperands v rest f
-    → line_limit s g v rest ≡ None → named ≡ gives_name v rest → LineSays s g l (line.Says f named)
-form_said s g l us rest v f named b x w y e k =
+pub form_said : (lim : Limits) → AreFit lim → (s g : ℕ) (l : List ℕ) (us rest : List Token) (v : Verb) (f : Form) (named : Bool) → is_blank l ≡ false → IsTokens (content l) us → IsVerb us v rest
+    → IsOperands v rest f → line_limit lim s g v rest ≡ None → named ≡ gives_name v rest → LineSays lim s g l (line.Says f named)
+form_said lim fit s g l us rest v f named b x w y e k =
     let t = tokens_exact x in
     let i = verb_back t.2 w in
-    let q = caps_equal v [] i.2 (line_within s g v rest e) in
-    subst (λ a. LineSays s g l (line.Says f a)) (sym k) (LineSays.statement b t.1 (subst (λ r. IsVerb t.0 v r) q i.1) y e)
+    let q = caps_equal lim fit v [] i.2 (line_within lim s g v rest e) in
+    subst (λ a. LineSays lim s g l (line.Says f a)) (sym k) (LineSays.statement b t.1 (subst (λ r. IsVerb t.0 v r) q i.1) y e)

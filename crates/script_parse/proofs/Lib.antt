@@ -1,6 +1,8 @@
 pub mod Caps
 pub mod Lines
 pub mod OneScript
-pub mod Shapes
-pub mod Powers
+pub mod Places
 pub mod Scan
+pub mod Shapes
+pub mod VersionFit
+pub mod Within

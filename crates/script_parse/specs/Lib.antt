@@ -1,5 +1,7 @@
 pub mod Exact
 pub mod Limits
 pub mod Says
-pub mod Scan
 pub mod Scripts
+pub mod Version
+pub mod Within
+pub mod steps

@@ -1,7 +1,7 @@
 -- The limits in a line: the limit that each token passes, told by the verb and by the tokens before and
 -- behind it, and which of them decides. `before` is what stands between the verb and the token, the
 -- nearest first.
-use Rattle.std.specs.Prelude.{◌<◌, ◌≤◌, ◌^◌, ◌+◌, ℕ, ◌||◌, ◌&&◌, ◌==◌, nat_lt, nat_le, if◌then◌else◌, Bool, true, false, not, Option, Some, None, List, [], ◌∷◌, length, count_by, take_while}
+use Rattle.std.specs.Prelude.{◌^◌, ◌+◌, ℕ, ◌||◌, ◌&&◌, ◌==◌, nat_lt, nat_le, if◌then◌else◌, Bool, true, false, not, Option, Some, None, List, [], ◌∷◌, length, count_by, take_while}
 use Rattle.std.specs.List.{list_any}
 use Rattle.std.specs.Option.{option_or}
 use Rattle.script_lang.specs.declared.Letter.{Letter}
@@ -12,43 +12,36 @@ use Rattle.script_parse.specs.declared.size.SizeKind.{SizeKind}
 use Rattle.script_parse.specs.declared.size.SizeKind.TheVariants as size
 use Rattle.script_lang.specs.declared.Token.{Token}
 use Rattle.script_lang.specs.declared.Token.TheVariants as token
+use Rattle.script_parse.specs.Version.{Limits}
 use Rattle.script_statement.specs.declared.Verb.{Verb}
 use Rattle.script_statement.specs.declared.Verb.TheVariants as verb
 use Rattle.script_statement.specs.declared.ModuleVerb.TheVariants as module_verb
 use Rattle.script_statement.specs.declared.PairVerb.TheVariants as pair_verb
 
 -- A prime that a base may have.
-abbrev pub is_listed : ℕ → Bool
-is_listed p = (p == 2) || (p == 3) || (p == 5) || (p == 7) || (p == 11) || (p == 13) || (p == 251)
-
--- The greatest exponent with which the power of a listed prime is at most 256.
-abbrev pub greatest_power : ℕ → ℕ
-greatest_power p = if p == 2 then 8 else if p == 3 then 5 else if p == 5 then 3 else if nat_lt p 17 then 2 else 1
-
--- `g` is the greatest exponent with a power of `p` of at most 256, told at the exponent `s`.
-abbrev pub IsGreatestPower : ℕ → ℕ → ℕ → Type 0
-IsGreatestPower p g s = (g < s → 256 < p ^ s) × (s ≤ g → p ^ s ≤ 256)
+abbrev pub is_listed : Limits → ℕ → Bool
+is_listed l p = list_any (λ q. p == q) l.primes
 
 -- The kind where the number is more than the limit.
 abbrev pub over_limit : ℕ → ℕ → SizeKind → Option SizeKind
 over_limit limit n kind = if nat_lt limit n then Some kind else None
 
 -- The limits of exponents.
-abbrev pub exponent_limit : Letter → ℕ → Option SizeKind
-exponent_limit letter.A n = over_limit 128 n size.Exponent
-exponent_limit letter.Z n = over_limit 128 n size.Exponent
-exponent_limit letter.SmallT n = over_limit 128 n size.Degree
-exponent_limit letter.CapitalT n = over_limit 16 n size.Image
-exponent_limit letter.X n = None
+abbrev pub exponent_limit : Limits → Letter → ℕ → Option SizeKind
+exponent_limit l letter.A n = over_limit l.exponent n size.Exponent
+exponent_limit l letter.Z n = over_limit l.exponent n size.Exponent
+exponent_limit l letter.SmallT n = over_limit l.degree n size.Degree
+exponent_limit l letter.CapitalT n = over_limit l.image n size.Image
+exponent_limit l letter.X n = None
 
 -- The limit that a number passes by its place: the exponent of a letter, the prime of a base, the
 -- exponent of a base with this prime, the degree of a top.
-abbrev pub place_limit : Verb → List Token → ℕ → Option SizeKind
-place_limit v (token.Sign sign.Caret ∷ token.Letter l ∷ rest) n = exponent_limit l n
-place_limit verb.Base [] n = if is_listed n then None else Some size.Prime
-place_limit verb.Base (token.Number p ∷ []) n = over_limit (greatest_power p) n size.Base
-place_limit verb.Over [] n = over_limit 12 n size.Top
-place_limit v before n = None
+abbrev pub place_limit : Limits → Verb → List Token → ℕ → Option SizeKind
+place_limit l v (token.Sign sign.Caret ∷ token.Letter x ∷ rest) n = exponent_limit l x n
+place_limit l verb.Base [] n = if is_listed l n then None else Some size.Prime
+place_limit l verb.Base (token.Number p ∷ []) n = over_limit l.base (p ^ n) size.Base
+place_limit l verb.Over [] n = over_limit l.top n size.Top
+place_limit l v before n = None
 
 abbrev pub is_bounded : Verb → Bool
 is_bounded (verb.OfModule (module_verb.Pair pair_verb.Bounded)) = true
@@ -59,11 +52,11 @@ is_empty [] = true
 is_empty (t ∷ ts) = false
 
 -- The limits of a number: of each number first, then of the last one of `bounded`, or by its place.
-abbrev pub number_limit : Verb → List Token → ℕ → List Token → Option SizeKind
-number_limit v before n behind =
-    if nat_lt 999999999 n then Some size.Number
-    else if is_bounded v && is_empty behind then over_limit 64 n size.Bound
-    else place_limit v before n
+abbrev pub number_limit : Limits → Verb → List Token → ℕ → List Token → Option SizeKind
+number_limit l v before n behind =
+    if nat_lt l.number n then Some size.Number
+    else if is_bounded v && is_empty behind then over_limit l.bound n size.Bound
+    else place_limit l v before n
 
 -- How many operands that are Drinfeld modules come first, with the name of a new one.
 abbrev pub modules : Verb → ℕ
@@ -96,26 +89,26 @@ commas before = count_by is_comma (take_while (λ t. not (is_opening t)) before)
 
 -- The limit of the coefficients in a list, from degree 0 on: one more of them follows each comma, in a
 -- module up to the greatest rank, else in a twisted polynomial up to the greatest degree.
-abbrev pub comma_limit : Verb → List Token → Option SizeKind
-comma_limit v before =
-    if nat_lt (operands before) (modules v) then over_limit 8 (commas before + 1) size.Rank
-    else over_limit 128 (commas before + 1) size.Degree
+abbrev pub comma_limit : Limits → Verb → List Token → Option SizeKind
+comma_limit l v before =
+    if nat_lt (operands before) (modules v) then over_limit l.rank (commas before + 1) size.Rank
+    else over_limit l.degree (commas before + 1) size.Degree
 
-abbrev pub sign_limit : Verb → List Token → Sign → Option SizeKind
-sign_limit v before sign.Comma = comma_limit v before
-sign_limit v before s = None
+abbrev pub sign_limit : Limits → Verb → List Token → Sign → Option SizeKind
+sign_limit l v before sign.Comma = comma_limit l v before
+sign_limit l v before s = None
 
 -- The limit that a token passes, after those before it and with those behind it.
-abbrev pub passes : Verb → List Token → Token → List Token → Option SizeKind
-passes v before (token.Number n) behind = number_limit v before n behind
-passes v before (token.Word w) behind = over_limit 32 (length w) size.Name
-passes v before (token.Sign s) behind = sign_limit v before s
-passes v before t behind = None
+abbrev pub passes : Limits → Verb → List Token → Token → List Token → Option SizeKind
+passes l v before (token.Number n) behind = number_limit l v before n behind
+passes l v before (token.Word w) behind = over_limit l.name (length w) size.Name
+passes l v before (token.Sign s) behind = sign_limit l v before s
+passes l v before t behind = None
 
 -- The limit that the leftmost token passes of those that pass one.
-abbrev pub first_limit : Verb → List Token → List Token → Option SizeKind
-first_limit v before [] = None
-first_limit v before (t ∷ behind) = option_or (passes v before t behind) (first_limit v (t ∷ before) behind)
+abbrev pub first_limit : Limits → Verb → List Token → List Token → Option SizeKind
+first_limit l v before [] = None
+first_limit l v before (t ∷ behind) = option_or (passes l v before t behind) (first_limit l v (t ∷ before) behind)
 
 abbrev pub is_as : Token → Bool
 is_as token.As = true
@@ -131,8 +124,8 @@ abbrev pub gives_name : Verb → List Token → Bool
 gives_name v ts = is_naming v || list_any is_as ts
 
 -- The limit that decides a line which is a statement, after so many statements and names.
-abbrev pub line_limit : ℕ → ℕ → Verb → List Token → Option SizeKind
-line_limit statements names v ts =
-    if nat_le 1000 statements then Some size.Statements
-    else if gives_name v ts && nat_le 256 names then Some size.Names
-    else first_limit v [] ts
+abbrev pub line_limit : Limits → ℕ → ℕ → Verb → List Token → Option SizeKind
+line_limit l statements names v ts =
+    if nat_le l.statements statements then Some size.Statements
+    else if gives_name v ts && nat_le l.names names then Some size.Names
+    else first_limit l v [] ts

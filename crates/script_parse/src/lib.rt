@@ -8,7 +8,9 @@ mod script;
 mod size;
 #[cfg(test)]
 mod tests;
+mod version;
 
 pub use line::Line;
-pub use script::{Refused, SCRIPT_LIMIT, Script, Statement, parse};
+pub use script::{Refused, Script, Statement, parse};
 pub use size::SizeKind;
+pub use version::Limits;

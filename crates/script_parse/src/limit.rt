@@ -1,11 +1,13 @@
-ghost use Rattle.std.specs.Prelude.{◌≡◌, ◌∷◌, ◌||◌, ◌+◌, ◌-◌, if◌then◌else◌, cond, min, List, [], Some, None};
+ghost use Rattle.std.specs.Prelude.{◌≡◌, ◌==◌, ℕ, ◌∷◌, ◌+◌, ◌-◌, ◌^◌, if◌then◌else◌, cond, min, List, [], Some, None};
 ghost use Rattle.std.specs.List.{list_any};
 ghost use Rattle.script_lang.specs.declared.Token.{Token};
 ghost use Rattle.script_statement.specs.declared.Verb.{Verb};
-ghost use Rattle.script_parse.specs.Limits.{is_listed, greatest_power, over_limit, exponent_limit, place_limit, is_bounded, number_limit, modules, ends_operand, is_comma, is_opening, comma_limit, sign_limit, passes, first_limit, is_as, is_naming, gives_name};
-ghost use Rattle.script_parse.specs.Scan.{spot_of, IsSeen};
+ghost use Rattle.script_parse.specs.Version.{limits_of};
+ghost use Rattle.script_parse.specs.Limits.{is_listed, over_limit, exponent_limit, place_limit, is_bounded, number_limit, modules, ends_operand, is_comma, is_opening, comma_limit, sign_limit, passes, first_limit, is_as, is_naming, gives_name};
+ghost use Rattle.script_parse.specs.steps.Scan.{most, spot_of, IsSeen};
 
 use super::size::SizeKind;
+use super::version::Limits;
 use script_lang::{Letter, Sign, Token, first};
 use script_statement::{ModuleVerb, PairVerb, Verb};
 
@@ -25,17 +27,17 @@ enum Spot {
 }
 
 /// What limits need to know of the tokens before: where they end, how many modules are left to come, and
-/// how many commas stand since the last opening bracket, up to 255.
+/// how many commas stand since the last opening bracket, up to `usize::MAX`.
 #[derive(Clone, Copy)]
 struct Seen {
     spot: Spot,
     left: u8,
-    commas: u8,
+    commas: usize,
 }
 
 /// The limit that the leftmost of the operands' tokens passes of those that pass one.
-pub(crate) fn first_limit(verb: Verb, tokens: &[Token]) -> Option<SizeKind>
-    ensures { result ≡ first_limit verb [] tokens.now }
+pub(crate) fn first_limit(limits: &Limits, verb: Verb, tokens: &[Token]) -> Option<SizeKind>
+    ensures { result ≡ first_limit (limits_of limits.now) verb [] tokens.now }
 {
     let mut seen = Seen {
         spot: Spot::Start,
@@ -44,7 +46,7 @@ pub(crate) fn first_limit(verb: Verb, tokens: &[Token]) -> Option<SizeKind>
     };
     let mut rest = tokens;
     while let Some((token, behind)) = first(rest) {
-        if let Some(kind) = passes(verb, seen, token, behind) {
+        if let Some(kind) = passes(limits, verb, seen, token, behind) {
             return Some(kind);
         }
         seen = after(seen, token);
@@ -66,13 +68,19 @@ fn modules(verb: Verb) -> u8
 }
 
 /// The limit that a token passes.
-fn passes(verb: Verb, seen: Seen, token: &Token, behind: &[Token]) -> Option<SizeKind>
-    ensures { (before : List Token) → IsSeen verb before seen → result ≡ passes verb before token.now behind.now }
+fn passes(
+    limits: &Limits,
+    verb: Verb,
+    seen: Seen,
+    token: &Token,
+    behind: &[Token],
+) -> Option<SizeKind>
+    ensures { (before : List Token) → IsSeen verb before seen → result ≡ passes (limits_of limits.now) verb before token.now behind.now }
 {
     match token {
-        Token::Number(n) => number_limit(verb, seen.spot, *n, behind),
-        Token::Word(bytes) => over_limit(32, bytes.len(), SizeKind::Name),
-        Token::Sign(sign) => sign_limit(verb, seen, *sign),
+        Token::Number(n) => number_limit(limits, verb, seen.spot, *n, behind),
+        Token::Word(bytes) => over_limit(limits.name, bytes.len(), SizeKind::Name),
+        Token::Sign(sign) => sign_limit(limits, verb, seen, *sign),
         _ => None,
     }
 }
@@ -85,37 +93,49 @@ fn over_limit(limit: usize, n: usize, kind: SizeKind) -> Option<SizeKind>
 }
 
 /// The limit that a sign passes.
-fn sign_limit(verb: Verb, seen: Seen, sign: Sign) -> Option<SizeKind>
-    ensures { (before : List Token) → IsSeen verb before seen → result ≡ sign_limit verb before sign }
+fn sign_limit(limits: &Limits, verb: Verb, seen: Seen, sign: Sign) -> Option<SizeKind>
+    ensures { (before : List Token) → IsSeen verb before seen → result ≡ sign_limit (limits_of limits.now) verb before sign }
 {
     match sign {
-        Sign::Comma => comma_limit(verb, seen),
+        Sign::Comma => comma_limit(limits, verb, seen),
         _ => None,
     }
 }
 
 /// The limit of the coefficients in a list, at a comma.
-fn comma_limit(verb: Verb, seen: Seen) -> Option<SizeKind>
-    ensures { (before : List Token) → IsSeen verb before seen → result ≡ comma_limit verb before }
+fn comma_limit(limits: &Limits, verb: Verb, seen: Seen) -> Option<SizeKind>
+    ensures { (before : List Token) → IsSeen verb before seen → result ≡ comma_limit (limits_of limits.now) verb before }
 {
-    let degree = usize::from(seen.commas) + 1;
     if 0 < seen.left {
-        return over_limit(8, degree, SizeKind::Rank);
+        return items_limit(limits.rank, seen.commas, SizeKind::Rank);
     }
-    over_limit(128, degree, SizeKind::Degree)
+    items_limit(limits.degree, seen.commas, SizeKind::Degree)
+}
+
+/// The kind where the comma after so many others is one more than the limit.
+fn items_limit(limit: usize, commas: usize, kind: SizeKind) -> Option<SizeKind>
+    ensures { (n : ℕ) → commas ≡ min n most → result ≡ over_limit limit (n + 1) kind }
+{
+    if limit <= commas { Some(kind) } else { None }
 }
 
 /// The limit that a number passes.
-fn number_limit(verb: Verb, spot: Spot, n: u32, behind: &[Token]) -> Option<SizeKind>
-    ensures { (before : List Token) → spot ≡ spot_of before → result ≡ number_limit verb before n behind.now }
+fn number_limit(
+    limits: &Limits,
+    verb: Verb,
+    spot: Spot,
+    n: u32,
+    behind: &[Token],
+) -> Option<SizeKind>
+    ensures { (before : List Token) → spot ≡ spot_of before → result ≡ number_limit (limits_of limits.now) verb before n behind.now }
 {
-    if 999_999_999 < n {
+    if limits.number < n {
         return Some(SizeKind::Number);
     }
     if is_bounded(verb) && behind.is_empty() {
-        return over_limit(64, n as usize, SizeKind::Bound);
+        return over_limit(limits.bound, n as usize, SizeKind::Bound);
     }
-    place_limit(verb, spot, n)
+    place_limit(limits, verb, spot, n)
 }
 
 /// Whether the last number is a bound.
@@ -129,65 +149,58 @@ fn is_bounded(verb: Verb) -> bool
 }
 
 /// The limit that a number passes by its place.
-fn place_limit(verb: Verb, spot: Spot, n: u32) -> Option<SizeKind>
-    ensures { (before : List Token) → spot ≡ spot_of before → result ≡ place_limit verb before n }
+fn place_limit(limits: &Limits, verb: Verb, spot: Spot, n: u32) -> Option<SizeKind>
+    ensures { (before : List Token) → spot ≡ spot_of before → result ≡ place_limit (limits_of limits.now) verb before n }
 {
     match (verb, spot) {
-        (_, Spot::Exponent(letter)) => exponent_limit(letter, n as usize),
-        (Verb::Base, Spot::Start) => prime_limit(n),
-        (Verb::Base, Spot::First(p)) => over_limit(greatest_power(p), n as usize, SizeKind::Base),
-        (Verb::Over, Spot::Start) => over_limit(12, n as usize, SizeKind::Top),
+        (_, Spot::Exponent(letter)) => exponent_limit(limits, letter, n as usize),
+        (Verb::Base, Spot::Start) => prime_limit(limits, n),
+        (Verb::Base, Spot::First(p)) => base_limit(limits, p, n),
+        (Verb::Over, Spot::Start) => over_limit(limits.top, n as usize, SizeKind::Top),
         _ => None,
     }
 }
 
-fn prime_limit(n: u32) -> Option<SizeKind>
-    ensures { result ≡ (if is_listed n then None else Some SizeKind.Prime) }
+/// The limit that the prime of a base passes.
+fn prime_limit(limits: &Limits, p: u32) -> Option<SizeKind>
+    ensures { result ≡ (if is_listed (limits_of limits.now) p then None else Some SizeKind.Prime) }
 {
-    if is_listed(n) {
+    if is_listed(limits.primes, p) {
         None
     } else {
         Some(SizeKind::Prime)
     }
 }
 
+/// Whether the number is one of the primes.
+fn is_listed(primes: &[u32], p: u32) -> bool
+    ensures { result ≡ list_any (λ q. p == q) primes.now }
+{
+    primes.iter().any(|prime| p == *prime)
+}
+
+/// The limit that the elements of a base pass, `p` to the power `s`.
+fn base_limit(limits: &Limits, p: u32, s: u32) -> Option<SizeKind>
+    ensures { result ≡ over_limit (limits_of limits.now).base (p ^ s) SizeKind.Base }
+{
+    let limit = limits.base;
+    match p.checked_pow(s) {
+        Some(size) => over_limit(limit as usize, size as usize, SizeKind::Base),
+        None => Some(SizeKind::Base),
+    }
+}
+
 /// The limit that an exponent passes.
-fn exponent_limit(letter: Letter, n: usize) -> Option<SizeKind>
-    ensures { result ≡ exponent_limit letter n }
+fn exponent_limit(limits: &Limits, letter: Letter, n: usize) -> Option<SizeKind>
+    ensures { result ≡ exponent_limit (limits_of limits.now) letter n }
 {
     match letter {
-        Letter::A => over_limit(128, n, SizeKind::Exponent),
-        Letter::Z => over_limit(128, n, SizeKind::Exponent),
-        Letter::SmallT => over_limit(128, n, SizeKind::Degree),
-        Letter::CapitalT => over_limit(16, n, SizeKind::Image),
+        Letter::A => over_limit(limits.exponent, n, SizeKind::Exponent),
+        Letter::Z => over_limit(limits.exponent, n, SizeKind::Exponent),
+        Letter::SmallT => over_limit(limits.degree, n, SizeKind::Degree),
+        Letter::CapitalT => over_limit(limits.image, n, SizeKind::Image),
         Letter::X => None,
     }
-}
-
-/// Whether a base may have this prime.
-fn is_listed(p: u32) -> bool
-    ensures { result ≡ is_listed p }
-{
-    p == 2 || p == 3 || p == 5 || p == 7 || p == 11 || p == 13 || p == 251
-}
-
-/// The greatest exponent with which the power of a listed prime is at most 256.
-fn greatest_power(p: u32) -> usize
-    ensures { result ≡ greatest_power p }
-{
-    if p == 2 {
-        return 8;
-    }
-    if p == 3 {
-        return 5;
-    }
-    if p == 5 {
-        return 3;
-    }
-    if p < 17 {
-        return 2;
-    }
-    1
 }
 
 /// What is seen after a token.
@@ -232,8 +245,8 @@ fn ends_operand(token: &Token) -> bool
     }
 }
 
-fn commas_after(commas: u8, token: &Token) -> u8
-    ensures { result ≡ cond (is_opening token.now) 0 (min (cond (is_comma token.now) 1 0 + commas) 255) }
+fn commas_after(commas: usize, token: &Token) -> usize
+    ensures { result ≡ cond (is_opening token.now) 0 (min (cond (is_comma token.now) 1 0 + commas) most) }
 {
     match token {
         Token::Sign(Sign::OpenList) => 0,

@@ -1,9 +1,12 @@
 ghost use Rattle.std.specs.Prelude.{◌≡◌, IfOk};
 ghost use Rattle.script_parse.specs.Limits.{gives_name, line_limit};
 ghost use Rattle.script_parse.specs.Says.{LineSays};
+ghost use Rattle.script_parse.specs.Version.{limits_of};
+ghost use Rattle.script_parse.specs.steps.Fit.{AreFit};
 
 use super::limit::{first_limit, gives_name};
 use super::size::SizeKind;
+use super::version::Limits;
 use ring_core::NoMemory;
 use script_lang::{Token, content_of, is_blank, tokens};
 use script_statement::{Form, Verb, read_operands, read_verb};
@@ -19,15 +22,17 @@ pub enum Line {
     Says(Form, bool),
 }
 
-/// What a line says after so many statements, and so many statements that give names. `NoMemory` where
+/// What a line says within these limits, after so many statements and so many that give names. `NoMemory` where
 /// memory is refused.
 pub(crate) fn read_line(
     alloc: Global,
+    limits: &Limits,
     statements: u32,
     names: u32,
     line: &[u8],
 ) -> Result<Line, NoMemory>
-    ensures says { IfOk result (λ r. LineSays statements names line.now r) }
+    requires { AreFit (limits_of limits.now) }
+    ensures says { IfOk result (λ r. LineSays (limits_of limits.now) statements names line.now r) }
 {
     if is_blank(line) {
         return Ok(Line::Blank);
@@ -44,7 +49,7 @@ pub(crate) fn read_line(
         return Ok(Line::Syntax);
     };
     let named = gives_name(verb, operands);
-    if let Some(kind) = line_limit(statements, names, named, verb, operands) {
+    if let Some(kind) = line_limit(limits, statements, names, named, verb, operands) {
         return Ok(Line::Size(kind));
     }
     Ok(Line::Says(form, named))
@@ -52,6 +57,7 @@ pub(crate) fn read_line(
 
 /// The limit that decides a line which is a statement; `named` says whether it gives a name.
 fn line_limit(
+    limits: &Limits,
     statements: u32,
     names: u32,
     named: bool,
@@ -59,13 +65,13 @@ fn line_limit(
     operands: &[Token],
 ) -> Option<SizeKind>
     requires { named ≡ gives_name verb operands.now }
-    ensures { result ≡ line_limit statements names verb operands.now }
+    ensures { result ≡ line_limit (limits_of limits.now) statements names verb operands.now }
 {
-    if 1000 <= statements {
+    if limits.statements <= statements {
         return Some(SizeKind::Statements);
     }
-    if named && 256 <= names {
+    if named && limits.names <= names {
         return Some(SizeKind::Names);
     }
-    first_limit(verb, operands)
+    first_limit(limits, verb, operands)
 }

@@ -1,18 +1,17 @@
 ghost use Rattle.std.specs.Prelude.{◌≡◌, ◌≢◌, ◌≤◌, ◌+◌, length, IfOk, IfErr};
 ghost use Rattle.std.specs.Str.Lines.{strip_carriage_return};
-ghost use Rattle.script_lang.specs.Lines.{lines};
-ghost use Rattle.script_parse.specs.declared.script.TheConstants.{SCRIPT_LIMIT};
-ghost use Rattle.script_parse.specs.Scripts.{IsScript, FirstFault, count};
+ghost use Rattle.std.specs.List.{All};
+ghost use Rattle.script_parse.specs.Version.{version_1};
+ghost use Rattle.script_parse.specs.Within.{IsWithin};
+ghost use Rattle.script_parse.specs.Scripts.{IsScriptOf, IsFaultOf, count};
 
 use super::line::{Line, read_line};
 use super::size::SizeKind;
+use super::version::Limits;
 use script_lang::next_line;
 use script_statement::Form;
 use sqlite_items::Items;
 use std::alloc::Global;
-
-/// The most bytes that a script may have.
-pub const SCRIPT_LIMIT: usize = 65536;
 
 /// The statements of a script, in their order.
 #[derive(Drop)]
@@ -39,14 +38,17 @@ pub enum Refused {
     NoMemory,
 }
 
-/// The script that at most `SCRIPT_LIMIT` bytes are: its statements in order, each with the number of its line
-/// and the places of the line's first byte and of the byte after its last, without its carriage return
-/// and line feed. Else the first line at fault, or `NoMemory` where memory is refused.
+/// The script that the bytes are, at most as many as [`Limits::script`] says: its statements in order, each with
+/// the number of its line and the places of the line's first byte and of the byte after its last, without its
+/// carriage return and line feed; each form is within the limits. Else the first line at fault, or `NoMemory`
+/// where memory is refused.
 pub fn parse(alloc: Global, bytes: &[u8]) -> Result<Script, Refused>
-    requires { length bytes.now ≤ SCRIPT_LIMIT }
-    ensures found { IfOk result (λ x. IsScript 1 0 0 0 (lines bytes.now) x.list) }
-    ensures fault { IfErr result (λ r. r ≢ Refused.NoMemory → FirstFault 1 0 0 (lines bytes.now) r) }
+    requires { length bytes.now ≤ version_1.script }
+    ensures found { IfOk result (λ x. IsScriptOf bytes.now x.list) }
+    ensures within { IfOk result (λ x. All (λ s. IsWithin version_1 s.form) x.list) }
+    ensures fault { IfErr result (λ r. r ≢ Refused.NoMemory → IsFaultOf bytes.now r) }
 {
+    let limits = Limits::version_1();
     let mut list = Items::new(alloc);
     let mut rest = bytes;
     let mut number: u32 = 1;
@@ -54,7 +56,7 @@ pub fn parse(alloc: Global, bytes: &[u8]) -> Result<Script, Refused>
     let mut statements: u32 = 0;
     let mut names: u32 = 0;
     while let Some((line, more)) = next_line(rest) {
-        let Ok(says) = read_line(alloc, statements, names, line) else {
+        let Ok(says) = read_line(alloc, &limits, statements, names, line) else {
             return Err(Refused::NoMemory);
         };
         let here = number;

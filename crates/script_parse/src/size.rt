@@ -1,30 +1,30 @@
-/// What passes its limit.
+/// What passes its limit, in the order of [`Limits`](crate::Limits).
 #[derive(Clone, Copy, Debug, PartialEq, Eq)]
 pub enum SizeKind {
-    /// The bytes of a script: at most 65,536.
+    /// The bytes of a script.
     Script,
-    /// The statements of a script: at most 1,000.
+    /// The statements of a script.
     Statements,
-    /// The statements of a script that give a name: at most 256.
+    /// The statements of a script that give a name.
     Names,
-    /// The bytes of a name: at most 32.
+    /// The bytes of a name.
     Name,
-    /// A typed number: at most 999,999,999.
+    /// A typed number.
     Number,
-    /// A typed exponent of `a` or `z`: at most 128.
+    /// A typed exponent of `a` or `z`.
     Exponent,
-    /// The prime of a base: one of 2, 3, 5, 7, 11, 13 and 251.
+    /// The prime of a base, which is none of those listed.
     Prime,
-    /// The elements of a base: at most 256.
+    /// The elements of a base.
     Base,
-    /// The degree of a top: at most 12.
+    /// The degree of a top.
     Top,
-    /// The items of a list as a Drinfeld module: at most 9, for a rank of at most 8.
+    /// The items of a list as a Drinfeld module: one more than its rank.
     Rank,
-    /// An exponent of `t` or the degree of a product: at most 128; or the items of another list: at most 129.
+    /// An exponent of `t`, or the degree of a product, or of another list: its items less one.
     Degree,
-    /// A typed exponent of `T`: at most 16.
+    /// A typed exponent of `T`.
     Image,
-    /// The bound of a list of homomorphisms: at most 64.
+    /// The bound of a list of homomorphisms.
     Bound,
 }

@@ -106,7 +106,7 @@ const LINES: [(&str, Option<Refused>); 82] = [
 
 /// The fault of a script, which is short enough.
 fn fault_of(alloc: Global, script: &[u8]) -> Option<Refused> {
-    if script.len() > SCRIPT_LIMIT {
+    if script.len() > Limits::version_1().script {
         return Some(Refused::NoMemory);
     }
     parse(alloc, script).err()

@@ -25,3 +25,7 @@ with_back bytes back = option_map (λ front. front ++ back) bytes
 -- No byte is left, where the bytes are told.
 abbrev pub AtEnd : Option (List ℕ) → Type 0
 AtEnd bytes = IfSome bytes (λ b. b ≡ [])
+
+-- Each limit of reading is below this number.
+abbrev pub read_bound : ℕ
+read_bound = 1000000

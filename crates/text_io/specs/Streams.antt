@@ -1,5 +1,6 @@
 -- What contracts see of the adapters over readers and writers of std.
-use Rattle.std.specs.Prelude.{ℕ}
+use Rattle.std.specs.Prelude.{ℕ, ◌⊎◌, Option, List, take}
+use Rattle.std.specs.Io.KnownBytes.{Appends, Keeps}
 use Rattle.text_io.specs.declared.std_source.StdSource.{StdSource}
 use Rattle.text_io.specs.declared.std_sink.StdSink.{StdSink}
 
@@ -18,3 +19,7 @@ writer_of s = s.writer
 -- The sink's count of faults.
 abbrev pub writer_faults : {W : Type 0} → StdSink W → ℕ
 writer_faults s = s.faults
+
+-- What a writer held and holds is the same, or grew by a front of this piece.
+abbrev pub HasFront : Option (List ℕ) → Option (List ℕ) → List ℕ → Type 0
+HasFront old new piece = Keeps old new ⊎ ((k : ℕ) × Appends old new (take k piece))

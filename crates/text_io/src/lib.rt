@@ -19,7 +19,7 @@ pub use fail_source::FailSource;
 pub use faults::Failed;
 pub use mem_sink::MemSink;
 pub use plain_source::PlainSource;
-pub use reading::{READ_BOUND, ReadStop, read_limited};
+pub use reading::{ReadStop, read_limited};
 pub use sink::Sink;
 pub use source::Source;
 pub use std_sink::StdSink;

@@ -1,12 +1,9 @@
 ghost use Rattle.std.specs.Prelude.{◌≡◌, ℕ, ◌+◌, ◌<◌, ◌≤◌, ◌⊎◌, length, take, is_some, IfSome, IfOk, OnOk, OnErr, IsErr, IsErrOf};
-ghost use Rattle.text_io.specs.Bytes.{Rose, with_front, AtEnd};
+ghost use Rattle.text_io.specs.Bytes.{Rose, with_front, AtEnd, read_bound};
 
 use crate::{Failed, Source};
 use std::alloc::Global;
 use thiserror::Error;
-
-/// Each limit of [`read_limited`] is below this number.
-pub const READ_BOUND: usize = 1_000_000;
 
 /// Why [`read_limited`] gave no bytes.
 #[derive(Debug, Drop, Error)]
@@ -22,8 +19,8 @@ pub enum ReadStop {
     NoMemory,
 }
 
-/// Reads a source to its end, which is seen, and gives all its bytes, at most `limit`. The room for
-/// `limit + 1` bytes is taken before the first read.
+/// Reads a source to its end, which is seen, and gives all its bytes, at most `limit`, which is below
+/// 1,000,000. The room for `limit + 1` bytes is taken before the first read.
 ///
 /// It answers `Failed` only where the source's count of faults rose, `TooLong` exactly where more
 /// than `limit` bytes came, and `NoMemory` where memory was refused, with the source as it was.
@@ -32,7 +29,7 @@ pub fn read_limited<I: Source>(
     source: &mut I,
     limit: usize,
 ) -> Result<Vec<u8>, ReadStop>
-    requires { limit < READ_BOUND }
+    requires { limit < read_bound }
 
     // Ok: all bytes, which are few enough, and the end was seen.
     ensures all { IfOk result (λ v. IfSome (I.coming source.old) (λ bytes. v.items ≡ bytes)) }

@@ -1,7 +1,8 @@
 ghost use Rattle.std.specs.Prelude.{◌<◌};
+ghost use Rattle.text_io.specs.Bytes.{read_bound};
 
 use super::*;
-use std::io;
+use std::io::{self, Read, Write};
 use std::test::Fail;
 
 #[test]
@@ -27,9 +28,95 @@ fn adapters_over_streams(rt: HostRuntime) -> Result<(), Fail> {
     Ok(())
 }
 
+/// A writer into a slice that takes at most so many bytes at a call, and whose flushes may fail.
+#[derive(Drop)]
+struct Slow<'a> {
+    room: &'a mut [u8],
+    most: usize,
+    flushes: bool,
+}
+
+impl io::Write for Slow<'_> {
+    fn write(&mut self, buf: &[u8]) -> io::Result<usize> {
+        let most = self.most.min(buf.len());
+        self.room.write(&buf[..most])
+    }
+
+    fn flush(&mut self) -> io::Result<()> {
+        if self.flushes {
+            return Ok(());
+        }
+        Err(io::Error::from(io::ErrorKind::Other))
+    }
+}
+
+#[test]
+fn writers_that_fail_or_take_less(rt: HostRuntime) -> Result<(), Fail> {
+    for (most, flushes, succeeds, expected) in [
+        (8, true, true, b"q = 2"),
+        (1, true, true, b"q = 2"),
+        (8, false, false, b"q = 2"),
+        (1, false, false, b"q...."),
+    ] {
+        let mut bytes = *b".....";
+        let mut sink = StdSink::new(Slow {
+            room: bytes.as_mut_slice(),
+            most,
+            flushes,
+        });
+        let written = write_whole(&mut sink, b"q = 2");
+        drop(sink);
+        assert_eq!(rt; written.is_ok(), succeeds);
+        assert_eq!(rt; bytes.as_slice(), expected.as_slice());
+    }
+    Ok(())
+}
+
+/// A reader of bytes whose first read fails.
+#[derive(Drop)]
+struct Late<'a> {
+    bytes: &'a [u8],
+    failed: bool,
+}
+
+impl io::Read for Late<'_> {
+    fn read(&mut self, into: &mut [u8]) -> io::Result<usize> {
+        if self.failed {
+            return self.bytes.read(into);
+        }
+        self.failed = true;
+        Err(io::Error::from(io::ErrorKind::Other))
+    }
+}
+
+#[test]
+fn reader_whose_first_read_fails(rt: HostRuntime) -> Result<(), Fail> {
+    let mut source = StdSource::new(Late {
+        bytes: b"base 2".as_slice(),
+        failed: false,
+    });
+    let stop = read_limited(rt.alloc(), &mut source, 6);
+    assert!(rt; matches!(stop, Err(ReadStop::Failed)));
+    let bytes = read_limited(rt.alloc(), &mut source, 6)?;
+    assert_eq!(rt; bytes.as_slice(), b"base 2".as_slice());
+    Ok(())
+}
+
+#[test]
+fn texts_of_faults(rt: HostRuntime) -> Result<(), Fail> {
+    for (stop, text) in [
+        (ReadStop::Failed, "a read failed"),
+        (ReadStop::TooLong, "more bytes came than are read"),
+        (ReadStop::NoMemory, "out of memory"),
+    ] {
+        assert_eq!(rt; format!(in rt.alloc(); "{stop}")?.as_str(), text);
+    }
+    Ok(())
+}
+
 // Reads `base 2`, two bytes at a call, from a source whose calls with these numbers fail.
 fn reading(rt: &HostRuntime, limit: usize, fails: &[u32]) -> Result<Result<Vec<u8>, ReadStop>, Fail>
-    requires { limit < READ_BOUND }
+    requires { limit < read_bound }
 {
     let bytes = b"base 2".to_vec(rt.alloc())?;
     let mut source = FailSource::new(bytes, 2, fails.to_vec(rt.alloc())?);
