@@ -1,7 +1,7 @@
 //! What the sums of a statement stand for over its field.
 ghost use Rattle.std.specs.Prelude.{◌≡◌, IfOk, true};
 ghost use Rattle.ring_core.specs.Coeffs.{are_elems, is_canonical};
-ghost use Rattle.residue_field.specs.Prime.{is_listed};
+ghost use Rattle.residue_field.specs.Prime.{is_listed, prime_ops};
 ghost use Rattle.residue_field.specs.Base.{ops_of};
 ghost use Rattle.residue_field.specs.Top.{ops_of_top};
 ghost use Rattle.operand_value.specs.Operands.{base_modulus, top_modulus, list_values, twisted_sum};
@@ -29,7 +29,8 @@ fn numbers(alloc: Global, list: &[Code]) -> Result<Vec<u32>, NoMemory>
 #[tactic(auto, unfolding(crate::specs::Operands::base_modulus))]
 pub fn base_modulus(alloc: Global, p: u32, modulus: &Option<Sum>) -> Result<Vec<u32>, NoMemory>
     requires { is_listed p ≡ true }
-    ensures { IfOk result (λ v. v.items ≡ base_modulus p modulus.now) }
+    ensures value { IfOk result (λ v. v.items ≡ base_modulus p modulus.now) }
+    ensures elem { IfOk result (λ v. are_elems (prime_ops p) v.items ≡ true) }
 {
     let Some(sum) = modulus else {
         return Ok(vec![in alloc; 0, 1]?);
