@@ -82,8 +82,8 @@ module _ {E B : Type 0} (r : RingOps E) (inv : E → Option E) (base : RingOps B
   power_nonzero c (suc i) p nz = no_zero_divisors r inv k (power_of r c i) c (power_in r k.ring c i p) p (power_nonzero c i p nz) nz
 
   -- where the Frobenius is the power by q
-  module _ (q : ℕ) (pos : 1 ≤ q) (h : (c : E) → IsElem r c → f.frob c 1 ≡ power_of r c q) where
-    frob_is_power : (c : E) (i : ℕ) → IsElem r c → f.frob c i ≡ power_of r c (q ^ i)
+  module _ (q : ℕ) (h : (c : E) → IsElem r c → f.frob c 1 ≡ power_of r c q) where
+    pub frob_is_power : (c : E) (i : ℕ) → IsElem r c → f.frob c i ≡ power_of r c (q ^ i)
     frob_is_power c zero p = l.frob_zero c p ∙ sym (ap (power_of r c) (pow-zero q) ∙ k.ring.one_mul c p)
     frob_is_power c (suc i) p =
         let next : suc i ≡ i + 1 = omega arith in
@@ -96,10 +96,10 @@ module _ {E B : Type 0} (r : RingOps E) (inv : E → Option E) (base : RingOps B
         ap₂ r.mul (product_is_power c e n p) (frob_is_power c (e * n) p) ∙ sym (power-add r k.ring c (geometric q e n) (q ^ (e * n)) p)
 
     -- the quotient of the two products is the invariant
-    pub invariant_is : (phi : List E) (i e : ℕ) (member last top bottom inverse x : E) → IsModule r phi → 0 < i → i < rank_of phi → IsGreatestCommonDivisor e i (rank_of phi)
+    pub invariant_is : 1 ≤ q → (phi : List E) (i e : ℕ) (member last top bottom inverse x : E) → IsModule r phi → 0 < i → i < rank_of phi → IsGreatestCommonDivisor e i (rank_of phi)
         → member ≡ coeff r phi i → last ≡ coeff r phi (rank_of phi) → top ≡ frob_product r f.frob member e (rank_of phi / e) → bottom ≡ frob_product r f.frob last e (i / e)
         → IsElem r top → IsElem r bottom → IsElem r inverse → r.mul bottom inverse ≡ r.one → x ≡ r.mul top inverse → IsElem r x → IsInvariant r q phi i x
-    invariant_is phi i e member last top bottom inverse x m pi less d is_member is_last is_top is_bottom et eb ei inverts is_x ex =
+    invariant_is pos phi i e member last top bottom inverse x m pi less d is_member is_last is_top is_bottom et eb ei inverts is_x ex =
         let elems = (and_parts _ _ m.canonical).0 in
         let z = k.ring.closed.zero_in in
         let high = elem_read r phi z elems (rank_of phi) in

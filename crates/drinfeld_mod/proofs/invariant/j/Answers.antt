@@ -15,7 +15,7 @@ unreachable-requires g c =
     let none =
     subst (λ o. MatchOption o (bottom ≡ r.zero) (λ x. IsElem r x × (r.mul bottom x ≡ r.one))) (sym c.inv.ensures.value ∙ c.in_default.is)
     (field.inv_is bottom c.frobenius_product-bottom.ensures.elem) in
-    bottom_nonzero r (g.K.Field.inv_of k) (g.K.Base.Field.ops b) (g.K.FrobField.frob_ops k) field (g.met.K.FrobField.frob_laws k) c.args.q (omega (arith, c.requires.size)) c.requires.power phi
+    bottom_nonzero r (g.K.Field.inv_of k) (g.K.Base.Field.ops b) (g.K.FrobField.frob_ops k) field (g.met.K.FrobField.frob_laws k) c.args.q c.requires.power phi
     c.coeff_at-last.result bottom c.greatest_common_divisor-e.result _ c.requires.module (rw (c.as_slice-2.ensures, c.rank-rank.ensures) at c.coeff_at-last.ensures.value)
     c.frobenius_product-bottom.ensures.value none
 
@@ -35,7 +35,7 @@ returns g c =
     (field.inv_is bottom c.frobenius_product-bottom.ensures.elem) in (
       positive,
       less,
-      invariant_is r (g.K.Field.inv_of k) (g.K.Base.Field.ops b) (g.K.FrobField.frob_ops k) field (g.met.K.FrobField.frob_laws k) c.args.q (omega (arith, c.requires.size)) c.requires.power phi
+      invariant_is r (g.K.Field.inv_of k) (g.K.Base.Field.ops b) (g.K.FrobField.frob_ops k) field (g.met.K.FrobField.frob_laws k) c.args.q c.requires.power (omega (arith, c.requires.size)) phi
           i c.greatest_common_divisor-e.result c.coeff_at-member.result c.coeff_at-last.result c.frobenius_product-top.result bottom c.in-Some.inverse c.mul.result
           c.requires.module positive less (rw c.rank-rank.ensures at c.greatest_common_divisor-e.ensures.divisor)
           (rw c.as_slice.ensures at c.coeff_at-member.ensures.value) (rw (c.as_slice-2.ensures, c.rank-rank.ensures) at c.coeff_at-last.ensures.value)

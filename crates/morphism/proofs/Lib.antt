@@ -1,0 +1,2 @@
+pub mod Homomorphisms
+pub mod Isomorphic

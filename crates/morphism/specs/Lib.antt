@@ -1,0 +1,2 @@
+pub mod Homomorphism
+pub mod Arrow
