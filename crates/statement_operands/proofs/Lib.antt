@@ -1,0 +1,5 @@
+pub mod ListCount
+pub mod Lookup
+pub mod Modules
+pub mod SoundNames
+pub mod Truths

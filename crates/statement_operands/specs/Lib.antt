@@ -1,0 +1,9 @@
+pub mod Asked
+pub mod Demands
+pub mod Fits
+pub mod Names
+pub mod Ranks
+pub mod Resolved
+pub mod Seen
+pub mod Sound
+pub mod Values

@@ -1,0 +1,5 @@
+use Rattle.statement_work.proofs.OneAnswer.{one_work}
+use Rattle.statement_work.proofs.laws.one_answer.Goals as goal
+
+pub returns : goal.returns
+returns c = one_work

@@ -1,0 +1,17 @@
+-- The forms that are answered.
+use Rattle.std.specs.Prelude.{Bool, true, false}
+use Rattle.script_statement.specs.declared.Form.{Form}
+use Rattle.script_statement.specs.declared.Form.TheVariants as form
+
+abbrev pub is_built : Form → Bool
+is_built (form.Base p s modulus) = true
+is_built (form.Over n modulus) = true
+is_built (form.Module name list) = true
+is_built (form.Ore name u) = true
+is_built (form.Show name) = true
+is_built (form.Rank m) = true
+is_built (form.Check m n u) = true
+is_built (form.Add u v name) = true
+is_built (form.Sub u v name) = true
+is_built (form.Mul u v name) = true
+is_built f = false

@@ -1,0 +1,4 @@
+pub mod Built
+pub mod Refusals
+pub mod Results
+pub mod Works

@@ -1,0 +1,23 @@
+ghost use Rattle.std.specs.Prelude.{◌≡◌};
+ghost use Rattle.statement_work.specs.Built.{is_built};
+
+use script_statement::Form;
+
+/// Whether the form is answered; each other form stops as not built.
+pub fn is_built(form: &Form) -> bool
+    ensures { result ≡ is_built form.now }
+{
+    match form {
+        Form::Base { .. } => true,
+        Form::Over { .. } => true,
+        Form::Module { .. } => true,
+        Form::Ore { .. } => true,
+        Form::Show { .. } => true,
+        Form::Rank { .. } => true,
+        Form::Check { .. } => true,
+        Form::Add { .. } => true,
+        Form::Sub { .. } => true,
+        Form::Mul { .. } => true,
+        _ => false,
+    }
+}

@@ -1,0 +1,89 @@
+ghost use Rattle.std.specs.Prelude.{◌≡◌, ◌≢◌, None, Some, option_map, true, false, IfOk, IfErr};
+ghost use Rattle.statement_operands.specs.Asked.{unknown_name, wrong_kind};
+ghost use Rattle.statement_operands.specs.Demands.{demands};
+ghost use Rattle.statement_operands.specs.Fits.{DemandsFit};
+ghost use Rattle.statement_operands.specs.Ranks.{unranked_operands};
+ghost use Rattle.statement_operands.specs.Resolved.{held, AreResolved};
+ghost use Rattle.statement_operands.specs.Seen.{seen};
+ghost use Rattle.statement_operands.specs.Sound.{AreValues};
+ghost use Rattle.statement_work.specs.Built.{is_built};
+ghost use Rattle.statement_work.specs.Refusals.{work_refusal};
+ghost use Rattle.statement_work.specs.Results.{gives_value};
+ghost use Rattle.statement_work.specs.Works.{Works};
+
+use super::modules::{check, module, rank};
+use super::names::{ore, show};
+use super::sums::{add, mul, sub};
+use answer::Answer;
+use field_tower::Tower;
+use script_statement::Form;
+use statement_operands::{Demands, Held, Names, Need, Operands, Stop, resolve};
+use std::alloc::Global;
+
+/// The operand, which is there.
+fn given<'s, 'a, T>(operand: &'s Option<Held<'a, T>>) -> &'s T
+    requires { operand.now ≢ None }
+    ensures { Some result.now ≡ option_map held operand.now }
+{
+    match operand {
+        Some(held) => held.get(),
+        None => unreachable!(),
+    }
+}
+
+/// What a form over a top field answers or refuses once its operands have values.
+#[tactic(auto, unfolding(crate::specs::Refusals::work_refusal))]
+fn work(
+    alloc: Global,
+    t: &Tower,
+    names: &Names,
+    form: &Form,
+    o: &Operands<'_>,
+) -> Result<Answer, Stop>
+    requires known { unknown_name names.now (demands form.now) ≡ false }
+    requires fits { DemandsFit (demands form.now) }
+    requires resolved { AreResolved t.now names.now (demands form.now) o.now }
+    requires ranked { unranked_operands t.now (demands form.now) ≡ false }
+    requires built { is_built form.now ≡ true }
+    requires over { (demands form.now).field ≡ Need.ATop }
+    ensures ok { IfOk result (λ a. (work_refusal t.now names.now form.now ≡ None) × Works t.now names.now form.now a) }
+    ensures elem { IfOk result (λ a. gives_value t.now a ≡ true) }
+    ensures stop { IfErr result (λ c. c ≢ Stop.NoMemory → work_refusal t.now names.now form.now ≡ Some c) }
+{
+    match form {
+        Form::Module { name, list } => module(alloc, t, name, list.as_slice()),
+        Form::Ore { name, .. } => Ok(ore(alloc, name, given(&o.u))?),
+        Form::Show { name } => Ok(show(alloc, names, name)?),
+        Form::Rank { .. } => Ok(rank(given(&o.phi))),
+        Form::Check { .. } => check(alloc, t, given(&o.phi), given(&o.psi), given(&o.u)),
+        Form::Add { .. } => Ok(add(alloc, t, given(&o.u), given(&o.v))?),
+        Form::Sub { .. } => Ok(sub(alloc, t, given(&o.u), given(&o.v))?),
+        Form::Mul { .. } => mul(alloc, t, given(&o.u), given(&o.v)),
+        _ => unreachable!(),
+    }
+}
+
+/// What a form over a top field answers or refuses, where the names meet what it asks.
+pub fn answer_of(
+    alloc: Global,
+    t: &Tower,
+    names: &Names,
+    form: &Form,
+    d: &Demands<'_>,
+) -> Result<Answer, Stop>
+    requires asked { seen d.now ≡ demands form.now }
+    requires sound { AreValues t.now names.now }
+    requires known { unknown_name names.now (demands form.now) ≡ false }
+    requires kind { wrong_kind names.now (demands form.now) ≡ false }
+    requires fits { DemandsFit (demands form.now) }
+    requires built { is_built form.now ≡ true }
+    requires over { (demands form.now).field ≡ Need.ATop }
+    ensures ok { IfOk result (λ a. (work_refusal t.now names.now form.now ≡ None) × Works t.now names.now form.now a) }
+    ensures elem { IfOk result (λ a. gives_value t.now a ≡ true) }
+    ensures stop { IfErr result (λ c. c ≢ Stop.NoMemory → work_refusal t.now names.now form.now ≡ Some c) }
+{
+    match resolve(alloc, t, names, d) {
+        Ok(operands) => work(alloc, t, names, form, &operands),
+        Err(stop) => Err(stop),
+    }
+}
