@@ -4,7 +4,7 @@ ghost use Rattle.script_lang.specs.declared.ModArg.{ModArg};
 ghost use Rattle.script_lang.specs.declared.Name.{Name};
 ghost use Rattle.script_lang.specs.declared.OreArg.{OreArg};
 ghost use Rattle.script_lang.specs.declared.Sum.{Sum};
-ghost use Rattle.script_lang.specs.Grammar.{IsSum, IsList, IsName, IsModOperand, IsOreOperand};
+ghost use Rattle.script_lang.specs.Grammar.{deepest, IsSum, IsList, IsName, IsModOperand, IsOreOperand};
 ghost use Rattle.script_statement.specs.Statements.{IsResult};
 
 use ring_core::NoMemory;
@@ -72,8 +72,8 @@ pub(crate) fn whole_sum(
     lead: bool,
     tokens: &[Token],
 ) -> Result<Option<Sum>, NoMemory>
-    ensures found { IfOk result (λ o. IfSome o (λ x. IsSum kind 16 lead tokens.now [] x)) }
-    ensures refused { IfOk result (λ o. IfNone o ((x : Sum) → ¬ IsSum kind 16 lead tokens.now [] x)) }
+    ensures found { IfOk result (λ o. IfSome o (λ x. IsSum kind deepest lead tokens.now [] x)) }
+    ensures refused { IfOk result (λ o. IfNone o ((x : Sum) → ¬ IsSum kind deepest lead tokens.now [] x)) }
 {
     let read = read_sum(alloc, kind, DEEPEST, lead, tokens)?;
     let Some((sum, rest)) = read else {
