@@ -1,0 +1,4 @@
+pub mod Granted
+pub mod Monic
+pub mod Outcomes
+pub mod Stepping

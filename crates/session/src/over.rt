@@ -1,0 +1,83 @@
+ghost use Rattle.std.specs.Prelude.{◌≡◌, ◌≢◌, None, Some, true, false, option_map, IfOk, IfErr, OnOk, OnErr};
+ghost use Rattle.statement_operands.specs.Asked.{unknown_name, wrong_kind, name_taken};
+ghost use Rattle.statement_operands.specs.Demands.{demands};
+ghost use Rattle.statement_operands.specs.Fits.{DemandsFit};
+ghost use Rattle.statement_operands.specs.Names.{value_of};
+ghost use Rattle.statement_operands.specs.Seen.{seen};
+ghost use Rattle.statement_operands.specs.Sound.{AreValues};
+ghost use Rattle.statement_work.specs.Built.{is_built};
+ghost use Rattle.statement_work.specs.Refusals.{work_refusal};
+ghost use Rattle.statement_work.specs.Results.{gives_value, named_value};
+ghost use Rattle.statement_work.specs.Works.{Works};
+ghost use Rattle.session.specs.Steps.{added, with_name};
+
+use answer::Answer;
+use field_tower::Tower;
+use ring_core::NoMemory;
+use script_statement::Form;
+use statement_operands::{Demands, Names, Need, Stop};
+use statement_work::{answer_of, named_value};
+use std::alloc::Global;
+
+/// Adds the name of a result, where the answer has a value for it.
+fn give_name(
+    alloc: Global,
+    t: &Tower,
+    names: &mut Names,
+    key: Vec<u8>,
+    answer: &Answer,
+) -> Result<(), NoMemory>
+    requires free { value_of names.old key.items ≡ None }
+    requires sound { AreValues t.now names.old }
+    requires elem { gives_value t.now answer.now ≡ true }
+    ensures ok { OnOk result (names.new ≡ added key.items (named_value answer.now) names.old) }
+    ensures same { OnErr result (names.new ≡ names.old) }
+    ensures kept { AreValues t.now names.new }
+{
+    let Some(value) = named_value(alloc, answer)? else {
+        return Ok(());
+    };
+    names.define(key, value)
+}
+
+/// The bytes of the new name, if there is one, and room for it.
+fn room(alloc: Global, names: &mut Names, d: &Demands<'_>) -> Result<Option<Vec<u8>>, NoMemory>
+    ensures key { IfOk result (λ o. option_map (λ key. key.items) o ≡ option_map (λ n. n.bytes) (seen d.now).gives) }
+    ensures same { names.new ≡ names.old }
+{
+    match d.gives {
+        None => Ok(None),
+        Some(name) => Ok(Some(names.room(alloc, name)?)),
+    }
+}
+
+/// The answer of a form over a top field, and its name. The room for the name is taken before the
+/// work begins.
+pub(crate) fn answer_over(
+    alloc: Global,
+    t: &Tower,
+    names: &mut Names,
+    form: &Form,
+    d: &Demands<'_>,
+) -> Result<Answer, Stop>
+    requires asked { seen d.now ≡ demands form.now }
+    requires sound { AreValues t.now names.old }
+    requires known { unknown_name names.old (demands form.now) ≡ false }
+    requires kind { wrong_kind names.old (demands form.now) ≡ false }
+    requires free { name_taken names.old (demands form.now) ≡ false }
+    requires fits { DemandsFit (demands form.now) }
+    requires built { is_built form.now ≡ true }
+    requires over { (demands form.now).field ≡ Need.ATop }
+    ensures ok { IfOk result (λ a. (work_refusal t.now names.old form.now ≡ None) × Works t.now names.old form.now a
+        × (names.new ≡ with_name (demands form.now).gives (named_value a) names.old)) }
+    ensures same { OnErr result (names.new ≡ names.old) }
+    ensures kept { AreValues t.now names.new }
+    ensures stop { IfErr result (λ c. c ≢ Stop.NoMemory → work_refusal t.now names.old form.now ≡ Some c) }
+{
+    let key = room(alloc, names, d)?;
+    let answer = answer_of(alloc, t, names, form, d)?;
+    if let Some(key) = key {
+        give_name(alloc, t, names, key, &answer)?;
+    }
+    Ok(answer)
+}
