@@ -1,3 +1,5 @@
+pub mod Decided
+pub mod Existence
 pub mod Granted
 pub mod Monic
 pub mod Outcomes

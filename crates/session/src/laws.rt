@@ -1,9 +1,18 @@
 //! What holds of the meaning of statements; each law is the contract of a function.
 
-ghost use Rattle.session.specs.Outcome.{OneOutcome};
+ghost use Rattle.script_statement.specs.declared.Form.{Form};
+ghost use Rattle.script_parse.specs.Version.{version_1};
+ghost use Rattle.script_parse.specs.Within.{IsWithin};
+ghost use Rattle.session.specs.Outcome.{OneOutcome, HasOutcome};
+ghost use Rattle.session.specs.State.{State};
 
 /// A statement has at most one outcome in a state: at most one answer with the state after it, at most
 /// one stop, and never both.
 pub fn one_outcome()
     ensures { OneOutcome }
+{}
+
+/// A statement that passes no limit has an outcome in each state.
+pub fn some_outcome()
+    ensures { (st : State) (f : Form) → IsWithin version_1 f → HasOutcome st f }
 {}

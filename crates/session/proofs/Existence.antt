@@ -1,0 +1,189 @@
+-- A statement that passes no limit has an outcome.
+use Rattle.std.proofs.Common.{◌≡◌, ◌≢◌, ◌⊎◌, inl, inr, ℕ, suc, ◌+◌, ◌-◌, ◌<◌, ◌≤◌, ◌^◌, ◌||◌, not, Bool, true, false, Option, Some, None, option_map, List, length, slice_index, refl, sym, ap, ap₂, subst, ◌∙◌, arith}
+use Rattle.std.specs.Prelude.{is_some}
+use Rattle.std.specs.Option.{option_or}
+use Rattle.std.proofs.lemmas.Bool.{false≢true}
+use Rattle.std.proofs.lemmas.Option.{none-some}
+use Rattle.ring_core.specs.Coeffs.{coeff, are_elems}
+use Rattle.ring_core.specs.Twisted.{list_add, list_neg, list_mul}
+use Rattle.finite_ring.proofs.Counted.{numbered}
+use Rattle.residue_field.specs.declared.TopElem.{TopElem}
+use Rattle.residue_field.specs.Prime.{is_listed, prime_ops}
+use Rattle.residue_field.specs.Base.{Base, base_ops, ops_of, size_of}
+use Rattle.residue_field.specs.Top.{Top, top_ops, ops_of_top, frob_of_top}
+use Rattle.residue_field.proofs.Listed.{listed_large}
+use Rattle.residue_field.proofs.Modular.{prime_ring}
+use Rattle.residue_field.proofs.BaseLaws.{IsBaseShape, shape_ring, shape_counted, base_ring}
+use Rattle.residue_field.proofs.TopLaws.{IsTopShape, top_shape_ring, top_shape_counted}
+use Rattle.script_lang.specs.declared.Name.{Name}
+use Rattle.script_lang.specs.declared.Sum.{Sum}
+use Rattle.script_statement.specs.declared.Form.{Form}
+use Rattle.script_statement.specs.declared.Form.TheVariants as form
+use Rattle.script_parse.specs.Version.{version_1}
+use Rattle.script_parse.specs.Within.{IsWithin}
+use Rattle.script_parse.proofs.VersionFit.{listed_primes}
+use Rattle.answer.specs.declared.Answer.{Answer}
+use Rattle.answer.specs.declared.Answer.TheVariants as answer
+use Rattle.answer.specs.declared.FieldState.{FieldState}
+use Rattle.answer.specs.declared.FieldState.TheVariants as field
+use Rattle.answer.specs.declared.Value.{Value}
+use Rattle.answer.specs.declared.Value.TheVariants as value
+use Rattle.answer.specs.Texts.{top_of}
+use Rattle.operand_value.specs.Operands.{list_values, base_modulus, top_modulus}
+use Rattle.statement_operands.specs.declared.MeaningKind.TheVariants as meaning
+use Rattle.statement_operands.specs.declared.Need.{Need}
+use Rattle.statement_operands.specs.declared.Need.TheVariants as need
+use Rattle.statement_operands.specs.declared.Stop.{Stop}
+use Rattle.statement_operands.specs.declared.Stop.TheVariants as stop
+use Rattle.statement_operands.specs.Asked.{is_unknown, unknown_name}
+use Rattle.statement_operands.specs.Demands.{demands}
+use Rattle.statement_operands.specs.Names.{value_of}
+use Rattle.statement_operands.specs.Values.{module_value, twisted_value}
+use Rattle.statement_work.specs.Built.{is_built}
+use Rattle.statement_work.specs.Refusals.{when}
+use Rattle.statement_work.specs.Results.{named_value}
+use Rattle.statement_work.specs.Works.{IsTruth, IsShown, Works}
+use Rattle.session.specs.Outcome.{HasOutcome}
+use Rattle.session.specs.Refusals.{is_monic, base_refusal, top_refusal, field_refusal, name_refusal, modulus_refusal, refusal_over, value_refusal, refusal}
+use Rattle.session.specs.State.{State}
+use Rattle.session.specs.Steps.{HasBasePair, HasTopPair, IsReducible, StopsAfter, Stops, SetsBase, SetsTop, SetsField, GivesOver, Answers, with_name}
+use Rattle.session.proofs.Decided.{same_elements, pair_or_none}
+use Rattle.session.proofs.Granted.{none_left, none_right, not_when, granted}
+use Rattle.session.proofs.Monic.{told_monic}
+use Rattle.session.proofs.Stepping.{needs_top}
+
+-- The work of a form that is answered gives an answer.
+truth_of : (P : Type 0) → P ⊎ (P → ⊥) → (a : Answer) × IsTruth a P
+truth_of P d = elim d [
+  | inl p ↦ (answer.Truth true, (true, refl, (λ t. p, λ q. refl)))
+  | inr n ↦ (answer.Truth false, (false, refl, (λ t. absurd (false≢true t), λ q. absurd (n q))))
+]
+
+shown : (v : Option Value) → not (is_some v) ≡ false → (a : Answer) × IsShown v a
+shown None h = absurd (false≢true (sym h))
+shown (Some v) h = (answer.Shown v, refl)
+
+abbrev is_top_need : Need → Bool
+is_top_need need.ATop = true
+is_top_need n = false
+
+works : (t : Top) (ns : List (List ℕ × Value)) (f : Form) → is_built f ≡ true → (demands f).field ≡ need.ATop → unknown_name ns (demands f) ≡ false → (a : Answer) × Works t ns f a
+works t ns (form.Base p s modulus) built over known = absurd (false≢true (ap is_top_need over))
+works t ns (form.Over n modulus) built over known = absurd (false≢true (ap is_top_need over))
+works t ns (form.Module name list) built over known = (answer.Named name (value.Module (list_values t list)), refl)
+works t ns (form.Ore name u) built over known = (answer.Named name (value.Ore (twisted_value t ns u)), refl)
+works t ns (form.Show name) built over known = shown (value_of ns name.bytes) known
+works t ns (form.Rank m) built over known = (_, refl)
+works t ns (form.Check m n u) built over known = truth_of _ (same_elements _ _)
+works t ns (form.Add u v name) built over known = (_, refl)
+works t ns (form.Sub u v name) built over known = (_, refl)
+works t ns (form.Mul u v name) built over known = (_, refl)
+works t ns f built over known = absurd (false≢true built)
+
+passed_test : (b : Bool) (x : Stop) → when (not b) x ≡ None → b ≡ true
+passed_test true x h = refl
+passed_test false x h = absurd (none-some x (sym h))
+
+-- A monic polynomial has a base, or two nonzero residues whose product is zero.
+base_outcome : (p s : ℕ) (m : Option Sum) → is_listed p ≡ true → 0 < s → base_refusal p s m ≡ None
+    → HasBasePair p s m ⊎ ((a : Answer) × ((k : FieldState) × SetsBase p s m a k))
+unfolding base_refusal
+base_outcome p s m listed positive free =
+    let monic = told_monic (prime_ops p) (prime_ring p (listed_large p listed)) s (base_modulus p m) (passed_test _ _ free) in
+    let degree : suc (s - 1) ≡ s = omega (arith, positive) in
+    let shape : IsBaseShape p (s - 1) (base_modulus p m) = record {
+      listed = listed;
+      elems = monic.0;
+      count = monic.1 ∙ ap (λ d. d + 1) (sym degree);
+      top = ap (slice_index (base_modulus p m)) degree ∙ monic.2;
+    } in
+    let ring = shape_ring p (s - 1) (base_modulus p m) shape in
+    elim (pair_or_none (base_ops p (s - 1) (base_modulus p m)) ring _ (numbered _ ring _ (shape_counted p (s - 1) (base_modulus p m) shape ring))) [
+      | inl pair ↦ inl pair
+      | inr none ↦
+          let k : Base = record {
+            p = p;
+            s = s;
+            modulus = base_modulus p m;
+            is_base = record { listed = listed; positive = positive; elems = monic.0; count = monic.1; top = monic.2; no_pair = none };
+          } in
+          inr (answer.Q (size_of k), (field.Base k, (k, (refl, refl, refl), refl, refl)))
+    ]
+
+top_outcome : (k : Base) (n : ℕ) (m : Sum) → 0 < n → n ≤ 12 → top_refusal k n m ≡ None
+    → HasTopPair k n m ⊎ ((a : Answer) × ((f : FieldState) × SetsTop k n m a f))
+unfolding top_refusal
+top_outcome k n m positive fits free =
+    let monic = told_monic (ops_of k) (base_ring k) n (top_modulus k m) (passed_test _ _ free) in
+    let degree : suc (n - 1) ≡ n = omega (arith, positive) in
+    let shape : IsTopShape k (n - 1) (top_modulus k m) = record {
+      fits = subst (λ d. d ≤ 12) (sym degree) fits;
+      elems = monic.0;
+      count = monic.1 ∙ ap (λ d. d + 1) (sym degree);
+      top = ap (coeff (ops_of k) (top_modulus k m)) degree ∙ monic.2;
+    } in
+    let ring = top_shape_ring k (n - 1) (top_modulus k m) shape in
+    elim (pair_or_none (top_ops k (n - 1) (top_modulus k m)) ring _ (numbered _ ring _ (top_shape_counted k (n - 1) (top_modulus k m) shape ring))) [
+      | inl pair ↦ inl pair
+      | inr none ↦
+          let t : Top = record {
+            base = k;
+            n = n;
+            modulus = top_modulus k m;
+            is_top = record { positive = positive; fits = fits; elems = monic.0; count = monic.1; top = monic.2; no_pair = none };
+          } in
+          inr (answer.N n, (field.Top t, (t, refl, refl, refl, refl, refl)))
+    ]
+
+-- What a form without a refusal does, by the field.
+abbrev Rest : FieldState → List (List ℕ × Value) → Form → Type 0
+Rest k ns f = ((c : Stop) × IsReducible k f c) ⊎ ((a : Answer) × ((next : State) × GivesOver (top_of k) (record { field = k; names = ns }) f a next))
+
+nothing_rest : (ns : List (List ℕ × Value)) (f : Form) → is_built f ≡ true → IsWithin version_1 f → field_refusal (demands f).field field.Nothing ≡ None
+    → modulus_refusal field.Nothing f ≡ None → Rest field.Nothing ns f
+nothing_rest ns (form.Base p s m) built within asked free =
+    elim (base_outcome p s m (sym (listed_primes p) ∙ within.0) within.1 free) [
+      | inl pair ↦ inl (stop.Meaning meaning.BaseReducible, (refl, pair))
+      | inr sets ↦ inr (sets.0, (record { field = sets.1.0; names = ns }, (sets.1.0, sets.1.1, refl)))
+    ]
+nothing_rest ns (form.Over n m) built within asked free = absurd (none-some _ (sym asked))
+nothing_rest ns f built within asked free = absurd (none-some meaning.FieldMissing (sym asked))
+
+base_rest : (k : Base) (ns : List (List ℕ × Value)) (f : Form) → is_built f ≡ true → IsWithin version_1 f → field_refusal (demands f).field (field.Base k) ≡ None
+    → modulus_refusal (field.Base k) f ≡ None → Rest (field.Base k) ns f
+base_rest k ns (form.Base p s m) built within asked free = absurd (none-some _ (sym asked))
+base_rest k ns (form.Over n m) built within asked free =
+    elim (top_outcome k n m within.0 within.1 free) [
+      | inl pair ↦ inl (stop.Meaning meaning.TopReducible, (refl, pair))
+      | inr sets ↦ inr (sets.0, (record { field = sets.1.0; names = ns }, (sets.1.0, sets.1.1, refl)))
+    ]
+base_rest k ns f built within asked free = absurd (none-some meaning.FieldMissing (sym asked))
+
+rest : (k : FieldState) (ns : List (List ℕ × Value)) (f : Form) → is_built f ≡ true → IsWithin version_1 f → field_refusal (demands f).field k ≡ None
+    → unknown_name ns (demands f) ≡ false → value_refusal k ns f ≡ None → Rest k ns f
+rest field.Nothing ns f built within asked known free = nothing_rest ns f built within asked free
+rest (field.Base k) ns f built within asked known free = base_rest k ns f built within asked free
+rest (field.Top t) ns f built within asked known free =
+    let w = works t ns f built (needs_top _ t asked) known in
+    inr (w.0, (record { field = field.Top t; names = with_name (demands f).gives (named_value w.0) ns }, (w.1, refl)))
+
+unmapped : {A B : Type 0} (g : A → B) (o : Option A) → option_map g o ≡ None → o ≡ None
+unmapped g None h = refl
+unmapped g (Some x) h = absurd (none-some (g x) (sym h))
+
+after_refusal : (st : State) (f : Form) → IsWithin version_1 f → refusal st f ≡ None → HasOutcome st f
+after_refusal st f within free =
+    let built : is_built f ≡ true = passed_test _ _ (none_left _ _ free) in
+    let later = none_right _ _ free in
+    let names = granted st (demands f) (unmapped (λ k. stop.Meaning k) _ (none_left _ _ later)) in
+    elim (rest st.field st.names f built within names.field names.known (none_right _ _ later)) [
+      | inl stops ↦ inl (stops.0, subst (λ o. StopsAfter o stops.0 (IsReducible st.field f stops.0)) (sym free) stops.1)
+      | inr gives ↦ inr (gives.0, (gives.1.0, (free, gives.1.1)))
+    ]
+
+by_refusal : (st : State) (f : Form) → IsWithin version_1 f → (o : Option Stop) → refusal st f ≡ o → HasOutcome st f
+by_refusal st f within None is = after_refusal st f within is
+by_refusal st f within (Some c) is = inl (c, subst (λ o. StopsAfter o c (IsReducible st.field f c)) (sym is) refl)
+
+pub outcome : (st : State) (f : Form) → IsWithin version_1 f → HasOutcome st f
+outcome st f within = by_refusal st f within (refusal st f) refl
