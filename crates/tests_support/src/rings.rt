@@ -1,8 +1,8 @@
-//! The calls of a ring through the bound `Ring`.
+//! The calls of a ring and of a field through their bounds.
 ghost use Rattle.std.specs.Prelude.{◌≡◌, IfOk};
 ghost use Rattle.ring_core.specs.Ring.{IsElem};
 
-use ring_core::Ring;
+use ring_core::{E, Field, Ring};
 use std::alloc::Global;
 use std::test::Fail;
 
@@ -14,6 +14,18 @@ pub fn checked<R: Ring>(ring: &R, a: R::Elem) -> Result<R::Elem, Fail>
         Ok(a)
     } else {
         Err(Fail::new("an element of the ring"))
+    }
+}
+
+/// `c`, which must be an element of the field.
+pub fn elem<K: Field>(field: &K, c: E<K>) -> Result<E<K>, Fail>
+    ensures value { IfOk result (λ e. e ≡ c) }
+    ensures elem { IfOk result (IsElem (K.ops field.now)) }
+{
+    if field.is_elem(c) {
+        Ok(c)
+    } else {
+        Err(Fail::new("an element of the field"))
     }
 }
 

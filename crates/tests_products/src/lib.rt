@@ -11,6 +11,4 @@ mod polynomials;
 #[cfg(test)]
 mod products;
 #[cfg(test)]
-mod ring_calls;
-#[cfg(test)]
 mod twisted;

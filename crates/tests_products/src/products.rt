@@ -1,25 +1,12 @@
 //! Products of twisted polynomials against the double sum that defines them.
-ghost use Rattle.std.specs.Prelude.{◌≡◌, IfOk};
-ghost use Rattle.ring_core.specs.Ring.{IsElem};
-
-use super::fields::{four, four_elements, listed, sixty_four, sixty_four_elements};
-use super::ring_calls::checked;
+use super::fields::{FOUR, SIXTY_FOUR, four_elements, listed, sixty_four_elements};
 use ore_poly::OreRing;
 use ring_core::lists::all_elems;
 use ring_core::{E, Field, FrobField, Ring};
 use std::alloc::Global;
 use std::test::Fail;
-
-/// `c`, which must be an element of the field.
-fn elem<K: Field>(field: &K, c: E<K>) -> Result<E<K>, Fail>
-    ensures { IfOk result (IsElem (K.ops field.now)) }
-{
-    if field.is_elem(c) {
-        Ok(c)
-    } else {
-        Err(Fail::new("an element of the field"))
-    }
-}
+use tests_support::fields::tower;
+use tests_support::rings::{checked, elem};
 
 /// `sum + a frob(b, i)`.
 fn with_term<K: FrobField>(field: &K, sum: E<K>, a: E<K>, b: E<K>, i: usize) -> Result<E<K>, Fail> {
@@ -122,13 +109,13 @@ fn check_products<K: FrobField>(
 
 #[test]
 fn all_short_products_over_four(rt: HostRuntime) -> Result<(), Fail> {
-    let field = four(rt.alloc())?;
+    let field = tower(rt.alloc(), FOUR)?;
     check_products(rt.alloc(), &field, &four_elements(), 1)
 }
 
 /// Over `F_4`, so that the Frobenius is the fourth power, in degree 3.
 #[test]
 fn some_products_over_sixty_four(rt: HostRuntime) -> Result<(), Fail> {
-    let field = sixty_four(rt.alloc())?;
+    let field = tower(rt.alloc(), SIXTY_FOUR)?;
     check_products(rt.alloc(), &field, &sixty_four_elements(), 7)
 }

@@ -3,13 +3,14 @@
 ghost use Rattle.std.specs.Prelude.{◌≡◌, IfOk, true};
 ghost use Rattle.ring_core.specs.Coeffs.{is_canonical};
 
-use super::fields::{listed, member, prime_field};
-use super::ring_calls::{check_calls, checked, is_same};
+use super::fields::{listed, member};
 use fq_poly::{Poly, PolyFault, PolyRing};
 use ring_core::lists::all_elems;
 use ring_core::{E, Field, Ring, eval, power};
 use std::alloc::Global;
 use std::test::Fail;
+use tests_support::fields::prime_field;
+use tests_support::rings::{check_calls, checked, is_same};
 
 /// The polynomial with the coefficients of these numbers, lowest first, as they stand.
 fn poly<F: Field>(

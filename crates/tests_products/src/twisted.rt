@@ -4,13 +4,14 @@
 ghost use Rattle.std.specs.Prelude.{◌≡◌, IfOk, true};
 ghost use Rattle.ring_core.specs.Coeffs.{is_canonical};
 
-use super::fields::{four, four_elements, listed, member};
-use super::ring_calls::{check_calls, checked, is_same};
+use super::fields::{FOUR, four_elements, listed, member};
 use ore_poly::{Ore, OreRing};
 use ring_core::lists::all_elems;
 use ring_core::{E, Field, FrobField, Ring, eval, power};
 use std::alloc::Global;
 use std::test::Fail;
+use tests_support::fields::tower;
+use tests_support::rings::{check_calls, checked, is_same};
 
 /// The twisted polynomial with the coefficients of these numbers, as they stand.
 fn ore<K: FrobField>(
@@ -95,7 +96,7 @@ fn apply_example<K: FrobField>(alloc: Global, field: &K, names: &[E<K>]) -> Resu
 #[test]
 fn twisted_polynomials_over_four_elements(rt: HostRuntime) -> Result<(), Fail> {
     let alloc = rt.alloc();
-    let field = four(alloc)?;
+    let field = tower(alloc, FOUR)?;
     let names = four_elements();
     ring_examples(alloc, &field, &names)?;
     power_example(alloc, &field, &names)?;
