@@ -1,15 +1,15 @@
 -- Multiples of a polynomial by a constant: that by the inverse of the top coefficient is the only monic one.
-use Rattle.std.proofs.Common.{◌≡◌, ◌≢◌, ℕ, ◌-◌, ◌≤◌, true, Option, List, [], length, refl, sym, ◌∙◌, ap, ap₂, subst, nat_eq, if◌then◌else◌, arith}
+use Rattle.std.proofs.Common.{◌≡◌, ◌≢◌, ℕ, ◌-◌, ◌≤◌, true, Option, List, [], length, refl, sym, ◌∙◌, ap, ap₂, nat_eq, if◌then◌else◌, arith}
 use Rattle.std.proofs.lemmas.Bool.{and_parts}
 use Rattle.ring_core.specs.Ring.{RingOps, IsElem}
 use Rattle.ring_core.specs.Field.{IsField}
-use Rattle.ring_core.specs.Coeffs.{coeff, is_canonical, list_of}
+use Rattle.ring_core.specs.Coeffs.{coeff, is_canonical}
 use Rattle.ring_core.specs.Monomial.{constant}
 use Rattle.ring_core.proofs.Carrier.{RingOn, Element, elements, zero_mul, mul_zero}
 use Rattle.ring_core.proofs.Coefficients.{elem_read}
 use Rattle.ring_core.proofs.Degrees.{degrees_add, poly_no_divisors, has_members}
 use Rattle.ring_core.proofs.ListRing.{coeff-mul, length-list_of, poly_ring}
-use Rattle.ring_core.proofs.Monomial.{constant_mul, monomial_in, monomial_product}
+use Rattle.ring_core.proofs.Monomial.{monomial_in, monomial_product}
 use Rattle.ring_core.proofs.Twist.{no_twist}
 use Rattle.fq_poly.specs.Poly.{poly_mul, poly_ops}
 use Rattle.fq_poly.specs.Monic.{IsMonicMultiple}
@@ -43,21 +43,19 @@ module _ {E : Type 0} (r : RingOps E) (inv : E → Option E) (k : IsField r inv)
       omega arith
 
   pub monic_by_inverse : (a : List E) (c : E) → is_canonical r a ≡ true → IsElem r c → r.mul (coeff r a (length a - 1)) c ≡ r.one
-      → IsMonicMultiple r a (list_of r (length a) (λ i. r.mul c (coeff r a i)))
+      → IsMonicMultiple r a (poly_mul r (constant r c) a)
   monic_by_inverse a c ca cin inverts =
-      let e = (and_parts _ _ ca).0 in
       let high = length a - 1 in
       let product = poly_mul r (constant r c) a in
-      let top : coeff r product high ≡ r.one = coeff-multiple c a cin ca high ∙ k.mul_comm c (coeff r a high) cin (elem_read r a k.ring.closed.zero_in e high) ∙ inverts in
+      let top : coeff r product high ≡ r.one = coeff-multiple c a cin ca high ∙ k.mul_comm c (coeff r a high) cin (elem_read r a k.ring.closed.zero_in (and_parts _ _ ca).0 high) ∙ inverts in
       let nonzero : product ≢ [] = λ q. k.one_ne_zero (sym top ∙ ap (λ u. coeff r u high) q) in
-      subst (IsMonicMultiple r a) (sym (constant_mul r k.ring (λ c i. c) (no_twist r) c a cin e))
-      (record {
+      record {
         canonical = (poly_ring r k.ring k.one_ne_zero).closed.mul_in (constant r c) a (monomial_in r k.ring c 0 cin) ca;
         factor = c;
         factor_in = cin;
         multiple = refl;
         top = ap (λ n. coeff r product (n - 1)) (length-multiple c a product cin ca refl nonzero) ∙ top;
-      })
+      }
 
   top_is_one : (a m : List E) → is_canonical r a ≡ true → (w : IsMonicMultiple r a m) → r.mul w.factor (coeff r a (length a - 1)) ≡ r.one
   top_is_one a m ca w =

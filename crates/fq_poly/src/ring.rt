@@ -80,7 +80,7 @@ impl<'f, F: Field> PolyRing<'f, F> {
         let Some(inverse) = top_inverse(self.field, &a.coeffs) else {
             return Err(PolyFault::ZeroDivisor);
         };
-        let coeffs = monic_list(alloc, self.field, &a.coeffs, inverse)?;
+        let coeffs = monic_list(alloc, self, &a.coeffs, inverse)?;
         Ok(Poly { coeffs })
     }
 

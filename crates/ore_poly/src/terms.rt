@@ -1,18 +1,19 @@
 //! What goes by single terms of a twisted polynomial, over slices.
-ghost use Rattle.std.specs.Prelude.{◌≡◌, ℕ, ◌+◌, ◌-◌, IfOk, MatchOption, if◌then◌else◌, length, nat_lt, true};
+ghost use Rattle.std.specs.Prelude.{◌≡◌, ℕ, ◌+◌, ◌-◌, IfOk, MatchOption, [], if◌then◌else◌, length, nat_lt, true};
 ghost use Rattle.ring_core.specs.Ring.{IsElem};
-ghost use Rattle.ring_core.specs.Coeffs.{coeff, are_elems, first_values};
+ghost use Rattle.ring_core.specs.Coeffs.{coeff, are_elems, is_canonical, first_values};
+ghost use Rattle.ring_core.specs.Twisted.{list_mul};
+ghost use Rattle.ring_core.specs.Monomial.{tau_power};
 ghost use Rattle.ore_poly.specs.Terms.{IsLowest, applied_at};
 
-use ring_core::lists::coeff_at;
+use ring_core::lists::{coeff_at, trimmed};
 use ring_core::{E, Field, FrobField, NoMemory};
 use std::alloc::Global;
 
-/// The place of the lowest member that isn't zero; None exactly where all are.
+/// The place of the lowest member that isn't zero; None exactly for the zero polynomial.
 pub fn lowest_place<K: Field>(field: &K, list: &[E<K>]) -> Option<usize>
-    requires { are_elems (K.ops field.now) list.now ≡ true }
-    ensures { let r = K.ops field.now in
-        MatchOption result ((i : ℕ) → coeff r list.now i ≡ r.zero) (IsLowest r list.now) }
+    requires { is_canonical (K.ops field.now) list.now ≡ true }
+    ensures { MatchOption result (list.now ≡ []) (IsLowest (K.ops field.now) list.now) }
 {
     for i in 0..list.len() {
         let member = coeff_at(field, list, i);
@@ -54,7 +55,7 @@ fn shifted_at<K: FrobField>(field: &K, list: &[E<K>], k: usize, j: usize) -> E<K
 }
 
 /// The coefficients of `tau^k` times the list. A length past `usize` is want of memory.
-pub fn shifted_values<K: FrobField>(
+fn shifted_values<K: FrobField>(
     alloc: Global,
     field: &K,
     list: &[E<K>],
@@ -75,6 +76,24 @@ pub fn shifted_values<K: FrobField>(
         values.push(member)?;
     }
     Ok(values)
+}
+
+/// The product of `tau^k` and the list. A length past `usize` is want of memory.
+pub fn shifted_list<K: FrobField>(
+    alloc: Global,
+    field: &K,
+    list: &[E<K>],
+    k: usize,
+) -> Result<Vec<E<K>>, NoMemory>
+    requires { are_elems (K.ops field.now) list.now ≡ true }
+    ensures value { IfOk result
+        (λ v. let r = K.ops field.now in v.items ≡ list_mul r (K.frob_ops field.now).frob (tau_power r k) list.now) }
+    ensures elem { IfOk result (λ v. is_canonical (K.ops field.now) v.items ≡ true) }
+{
+    if list.is_empty() {
+        return Ok(Vec::new(alloc));
+    }
+    Ok(trimmed(field, shifted_values(alloc, field, list, k)?))
 }
 
 /// The sum of `list[i] x^(q^i)`. Takes no memory.

@@ -8,11 +8,11 @@ ghost use Rattle.ring_core.proofs.Twist.{frob_twist};
 ghost use Rattle.ring_core.specs.Degrees.{degree_of};
 ghost use Rattle.ore_poly.specs.Terms.{IsLowest, applied_at};
 
-use super::terms::{apply_list, lowest_place, raise_row, shifted_values};
+use super::terms::{apply_list, lowest_place, raise_row, shifted_list};
 use ring_core::lists::{
-    are_canonical, copy_list, equal_lists, neg_list, scaled_values, single_list, sum_list, trimmed,
+    are_canonical, copy_list, equal_lists, neg_list, single_list, sum_list, trimmed,
 };
-use ring_core::product::product_list;
+use ring_core::product::{product_list, scaled_list};
 use ring_core::{E, Field, FrobField, NoMemory, Ring, TwistedRing};
 use std::alloc::Global;
 use std::marker::Model;
@@ -121,7 +121,7 @@ impl<'k, K: FrobField> OreRing<'k, K> {
             (λ v. let r = K.ops self.now in v ≡ list_mul r (K.frob_ops self.now).frob (constant r c) u.now) }
         ensures elem { IfOk result (λ v. is_canonical (K.ops self.now) v ≡ true) }
     {
-        let coeffs = trimmed(self.field, scaled_values(alloc, self.field, c, &u.coeffs)?);
+        let coeffs = scaled_list(alloc, self, c, &u.coeffs)?;
         Ok(Ore { coeffs })
     }
 
@@ -132,12 +132,7 @@ impl<'k, K: FrobField> OreRing<'k, K> {
             (λ v. let r = K.ops self.now in v ≡ list_mul r (K.frob_ops self.now).frob (tau_power r k) u.now) }
         ensures elem { IfOk result (λ v. is_canonical (K.ops self.now) v ≡ true) }
     {
-        if u.coeffs.is_empty() {
-            return Ok(Ore {
-                coeffs: Vec::new(alloc),
-            });
-        }
-        let coeffs = trimmed(self.field, shifted_values(alloc, self.field, &u.coeffs, k)?);
+        let coeffs = shifted_list(alloc, self.field, &u.coeffs, k)?;
         Ok(Ore { coeffs })
     }
 

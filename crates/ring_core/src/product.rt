@@ -2,11 +2,13 @@
 //! raised by one step of the twist for each place of the left one, so that lists of `m` and `n` members
 //! cost at most `m n` products in the field, and `m` raised rows of `n` members.
 ghost use Rattle.std.specs.Prelude.{◌≡◌, ℕ, ◌+◌, ◌<◌, ◌≤◌, IfOk, length, true};
+ghost use Rattle.ring_core.specs.Ring.{IsElem};
 ghost use Rattle.ring_core.specs.Coeffs.{coeff, are_elems, is_canonical, first_values};
 ghost use Rattle.ring_core.specs.Twisted.{product_at, list_mul};
+ghost use Rattle.ring_core.specs.Monomial.{constant};
 
 use super::field::E;
-use super::lists::{coeff_at, copy_list, trimmed};
+use super::lists::{coeff_at, copy_list, scaled_values, trimmed};
 use super::memory::NoMemory;
 use super::rows::{add_scaled, zero_list};
 use super::twisted::TwistedRing;
@@ -72,4 +74,21 @@ pub fn product_list<T: TwistedRing>(
     ensures elem { IfOk result (λ v. is_canonical (T.Over.ops (T.over ring.now)) v.items ≡ true) }
 {
     Ok(trimmed(ring.field(), product_values(alloc, ring, a, b)?))
+}
+
+/// The product of the constant `c` and the list, which goes by places.
+pub fn scaled_list<T: TwistedRing>(
+    alloc: Global,
+    ring: &T,
+    c: E<T::Over>,
+    list: &[E<T::Over>],
+) -> Result<Vec<E<T::Over>>, NoMemory>
+    requires factor { IsElem (T.Over.ops (T.over ring.now)) c }
+    requires elems { are_elems (T.Over.ops (T.over ring.now)) list.now ≡ true }
+    ensures value { IfOk result
+        (λ v. let r = T.Over.ops (T.over ring.now) in v.items ≡ list_mul r (T.twist ring.now) (constant r c) list.now) }
+    ensures elem { IfOk result (λ v. is_canonical (T.Over.ops (T.over ring.now)) v.items ≡ true) }
+{
+    let field = ring.field();
+    Ok(trimmed(field, scaled_values(alloc, field, c, list)?))
 }
