@@ -21,3 +21,7 @@ read_len rows i n x l e = e ∙ ap length (get_or_default rows i x [] l)
 
 pub read_coeff : {E : Type 0} (r : RingOps E) (rows : List (List E)) (i t : ℕ) (u x : List E) → i < length rows → u ≡ get_or rows i x → coeff r u t ≡ entry r rows i t
 read_coeff r rows i t u x l e = ap (λ v. coeff r v t) (e ∙ get_or_default rows i x [] l)
+
+-- a row that was read
+pub read_row : {E : Type 0} (rows : List (List E)) (i : ℕ) (u x : List E) → i < length rows → u ≡ get_or rows i x → u ≡ row_at rows i
+read_row rows i u x l e = e ∙ get_or_default rows i x [] l

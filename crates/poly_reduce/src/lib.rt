@@ -3,10 +3,18 @@
 //! back.
 #![tactic(auto)]
 
+mod calls;
+mod convert;
 mod flat;
 mod flat_rows;
+mod matrix;
 mod poly_row;
+mod poly_rows;
 
+pub use calls::{Reduced, kernel, reduce};
+pub use convert::{flatten, unflatten};
 pub use flat::{FlatReduced, kernel_flat, reduce_flat};
 pub use flat_rows::FlatRows;
+pub use matrix::{identity, product};
 pub use poly_row::PolyRow;
+pub use poly_rows::PolyRows;

@@ -136,7 +136,3 @@ module _ {E : Type 0} (r : RingOps E) (image : List (List E)) where
               let u : length (row_at image k) ≤ above = ltb-false above (length (row_at image k)) v in
               let s = h.listed k l u in record { row = s.row; is = kept k s.row s.is });
         }
-
--- a row that was read
-pub read_row : {E : Type 0} (rows : List (List E)) (i : ℕ) (u x : List E) → i < length rows → u ≡ get_or rows i x → u ≡ row_at rows i
-read_row rows i u x l e = e ∙ get_or_default rows i x [] l

@@ -6,7 +6,8 @@ use Rattle.flat_modules.proofs.Lists.{flat_at}
 use Rattle.popov_basis.specs.steps.Leading.{IsMonicOf, IsLeading}
 use Rattle.flat_reduce.proofs.Reading.{read_len}
 use Rattle.flat_reduce.proofs.Pushed.{flat_push}
-use Rattle.popov_basis.proofs.Leads.{leading_more, leading_all, read_row}
+use Rattle.flat_reduce.proofs.Reading.{read_row}
+use Rattle.popov_basis.proofs.Leads.{leading_more, leading_all}
 use Rattle.popov_basis.proofs.leading.leading.Goals as goal
 
 pub monic_row-requires-clause-row : goal.monic_row-requires-clause-row

@@ -5,7 +5,7 @@ use Rattle.popov_basis.specs.steps.Division.{IsTermAdded}
 use Rattle.flat_reduce.proofs.Settling.{none_if}
 use Rattle.flat_reduce.proofs.Reading.{read_elems}
 use Rattle.flat_reduce.proofs.Reading.{read_len}
-use Rattle.popov_basis.proofs.Leads.{read_row}
+use Rattle.flat_reduce.proofs.Reading.{read_row}
 use Rattle.popov_basis.proofs.Dividing.{divide_free, divide_high, divide_taken}
 use Rattle.popov_basis.proofs.normal.divide_at.Goals as goal
 
