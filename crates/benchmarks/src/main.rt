@@ -7,12 +7,10 @@
 ghost use Rattle.std.specs.Prelude.{◌≡◌, ◌<◌, true};
 ghost use Rattle.linear_algebra.specs.Linear.{are_rows};
 
-mod counting;
 mod fields;
 mod random;
 mod scripts;
 
-use counting::counting;
 use field_tower::{BaseField, multiply};
 use fq_linear::{Rows, kernel};
 use random::{Random, Shape, random_rows};
@@ -21,6 +19,7 @@ use ring_core::{E, Field};
 use std::process::ExitCode;
 use std::time::{Duration, Instant};
 use std::{env, io};
+use tests_support::counting::CountingField;
 
 /// What a kernel cost: products of the field, and time.
 #[derive(Drop)]
@@ -54,7 +53,7 @@ fn no_memory() -> io::Error {
 fn measure<K: Field>(rt: &HostRuntime, field: &K, rows: &Rows<E<K>>) -> io::Result<Cost>
     requires { are_rows (K.ops field.now) rows.now.width rows.now.rows ≡ true }
 {
-    let counting_field = counting(field);
+    let counting_field = CountingField::new(field);
     let start = Instant::now(rt)?;
     let Ok(relations) = kernel(rt.alloc(), &counting_field, rows) else {
         return Err(no_memory());
@@ -75,7 +74,7 @@ fn residue_products<K: Field>(rt: &HostRuntime, field: &K, c: E<K>, n: usize) ->
     requires { 0 < n }
 {
     let alloc = rt.alloc();
-    let counting_field = counting(field);
+    let counting_field = CountingField::new(field);
     let mut modulus = vec![in alloc; c; n.saturating_add(1)]?;
     if let Some(top) = modulus.last_mut() {
         *top = field.one();
