@@ -45,7 +45,7 @@ found P dec (suc n) = elim (dec n) [
   ]
 ]
 
-decided : (b : Bool) → (b ≡ true) ⊎ (b ≡ true → ⊥)
+pub decided : (b : Bool) → (b ≡ true) ⊎ (b ≡ true → ⊥)
 decided true = inl refl
 decided false = inr false≢true
 

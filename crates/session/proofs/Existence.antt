@@ -4,7 +4,8 @@ use Rattle.std.specs.Prelude.{is_some}
 use Rattle.std.specs.Option.{option_or}
 use Rattle.std.proofs.lemmas.Bool.{false≢true}
 use Rattle.std.proofs.lemmas.Option.{none-some}
-use Rattle.ring_core.specs.Coeffs.{coeff, are_elems}
+use Rattle.ring_core.specs.Ring.{RingOps}
+use Rattle.ring_core.specs.Coeffs.{coeff, are_elems, is_canonical}
 use Rattle.ring_core.specs.Twisted.{list_add, list_neg, list_mul}
 use Rattle.finite_ring.proofs.Counted.{numbered}
 use Rattle.residue_field.specs.declared.TopElem.{TopElem}
@@ -15,6 +16,7 @@ use Rattle.residue_field.proofs.Listed.{listed_large}
 use Rattle.residue_field.proofs.Modular.{prime_ring}
 use Rattle.residue_field.proofs.BaseLaws.{IsBaseShape, shape_ring, shape_counted, base_ring}
 use Rattle.residue_field.proofs.TopLaws.{IsTopShape, top_shape_ring, top_shape_counted}
+use Rattle.morphism.specs.Homomorphism.{IsHomomorphism}
 use Rattle.script_lang.specs.declared.Name.{Name}
 use Rattle.script_lang.specs.declared.Sum.{Sum}
 use Rattle.script_statement.specs.declared.Form.{Form}
@@ -47,7 +49,7 @@ use Rattle.session.specs.Outcome.{HasOutcome}
 use Rattle.session.specs.Refusals.{is_monic, base_refusal, top_refusal, field_refusal, name_refusal, modulus_refusal, refusal_over, value_refusal, refusal}
 use Rattle.session.specs.State.{State}
 use Rattle.session.specs.Steps.{HasBasePair, HasTopPair, IsReducible, StopsAfter, Stops, SetsBase, SetsTop, SetsField, GivesOver, Answers, with_name}
-use Rattle.session.proofs.Decided.{same_elements, pair_or_none}
+use Rattle.session.proofs.Decided.{same_elements, decided, pair_or_none}
 use Rattle.session.proofs.Granted.{none_left, none_right, not_when, granted}
 use Rattle.session.proofs.Monic.{told_monic}
 use Rattle.session.proofs.Stepping.{needs_top}
@@ -57,6 +59,15 @@ truth_of : (P : Type 0) → P ⊎ (P → ⊥) → (a : Answer) × IsTruth a P
 truth_of P d = elim d [
   | inl p ↦ (answer.Truth true, (true, refl, (λ t. p, λ q. refl)))
   | inr n ↦ (answer.Truth false, (false, refl, (λ t. absurd (false≢true t), λ q. absurd (n q))))
+]
+
+homomorphism_or : (r : RingOps TopElem) (frob : TopElem → ℕ → TopElem) (phi psi u : List TopElem) → IsHomomorphism r frob phi psi u ⊎ (IsHomomorphism r frob phi psi u → ⊥)
+homomorphism_or r frob phi psi u = elim (decided (is_canonical r u)) [
+  | inl canonical ↦ elim (same_elements (list_mul r frob u phi) (list_mul r frob psi u)) [
+    | inl same ↦ inl (record { canonical = canonical; commutes = same })
+    | inr other ↦ inr (λ h. other h.commutes)
+  ]
+  | inr none ↦ inr (λ h. none h.canonical)
 ]
 
 shown : (v : Option Value) → not (is_some v) ≡ false → (a : Answer) × IsShown v a
@@ -74,7 +85,8 @@ works t ns (form.Module name list) built over known = (answer.Named name (value.
 works t ns (form.Ore name u) built over known = (answer.Named name (value.Ore (twisted_value t ns u)), refl)
 works t ns (form.Show name) built over known = shown (value_of ns name.bytes) known
 works t ns (form.Rank m) built over known = (_, refl)
-works t ns (form.Check m n u) built over known = truth_of _ (same_elements _ _)
+works t ns (form.Check m n u) built over known =
+    truth_of _ (homomorphism_or (ops_of_top t) (frob_of_top t).frob (module_value t ns m) (module_value t ns n) (twisted_value t ns u))
 works t ns (form.Add u v name) built over known = (_, refl)
 works t ns (form.Sub u v name) built over known = (_, refl)
 works t ns (form.Mul u v name) built over known = (_, refl)

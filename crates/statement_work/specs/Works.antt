@@ -2,7 +2,7 @@
 use Rattle.std.specs.Prelude.{◌≡◌, ℕ, ◌↔◌, Bool, IsTrue, Option, Some, None, List}
 use Rattle.ring_core.specs.Twisted.{list_add, list_neg, list_mul}
 use Rattle.residue_field.specs.Top.{Top, ops_of_top, frob_of_top}
-use Rattle.ore_poly.specs.Homomorphism.{IsHomomorphism}
+use Rattle.morphism.specs.Homomorphism.{IsHomomorphism}
 use Rattle.drinfeld_mod.specs.Module.{rank_of}
 use Rattle.script_statement.specs.declared.Form.{Form}
 use Rattle.script_statement.specs.declared.Form.TheVariants as form

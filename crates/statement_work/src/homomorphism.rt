@@ -1,7 +1,7 @@
 ghost use Rattle.std.specs.Prelude.{◌≡◌, ◌↔◌, IsTrue, IfOk, not, true};
 ghost use Rattle.ring_core.specs.Coeffs.{is_canonical};
 ghost use Rattle.drinfeld_mod.specs.Module.{IsModule};
-ghost use Rattle.ore_poly.specs.Homomorphism.{IsHomomorphism};
+ghost use Rattle.morphism.specs.Homomorphism.{IsHomomorphism};
 ghost use Rattle.statement_work.specs.Refusals.{constants_differ};
 
 use drinfeld_mod::{Module, as_ore};

@@ -2,7 +2,7 @@ ghost use Rattle.std.specs.Prelude.{◌≡◌, ◌≢◌, ◌≤◌, ◌↔◌, 
 ghost use Rattle.ring_core.specs.Coeffs.{is_canonical};
 ghost use Rattle.residue_field.specs.Top.{ops_of_top, frob_of_top};
 ghost use Rattle.drinfeld_mod.specs.Module.{IsModule, rank_of};
-ghost use Rattle.ore_poly.specs.Homomorphism.{IsHomomorphism};
+ghost use Rattle.morphism.specs.Homomorphism.{IsHomomorphism};
 ghost use Rattle.statement_operands.specs.Ranks.{unranked_list};
 ghost use Rattle.operand_value.specs.Operands.{list_values};
 ghost use Rattle.statement_work.specs.Refusals.{constants_differ};

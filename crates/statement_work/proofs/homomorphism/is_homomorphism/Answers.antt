@@ -11,7 +11,8 @@ returns g c =
     let frob = (g.K.FrobField.frob_ops k).frob in
     let ring = frob_ring _ _ _ _ (g.met.K.Field.laws k) (g.met.K.FrobField.frob_laws k) in
     let here = c.new-ring.ensures in
-    decided _ ring.equal c.in_ok-left.left c.in_ok-right.right _ _ c.equal.result
+    let same = decided _ ring.equal c.in_ok-left.left c.in_ok-right.right (list_mul r frob c.args.u.now c.args.phi.now) (list_mul r frob c.args.psi.now c.args.u.now) c.equal.result
     (rw here at c.in_ok-left.ensures.elem) (rw here at c.in_ok-right.ensures.elem) (rw here at c.equal.ensures)
     ((rw here at c.in_ok-left.ensures.value) ∙ ap (λ s. list_mul r frob c.args.u.now s) c.in_ok-source.ensures.value)
-    ((rw here at c.in_ok-right.ensures.value) ∙ ap (λ s. list_mul r frob s c.args.u.now) c.in_ok-target.ensures.value)
+    ((rw here at c.in_ok-right.ensures.value) ∙ ap (λ s. list_mul r frob s c.args.u.now) c.in_ok-target.ensures.value) in
+    (λ yes. record { canonical = c.requires.candidate; commutes = same.0 yes }, λ h. same.1 h.commutes)
