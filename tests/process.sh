@@ -42,10 +42,16 @@ run <<<"${script%$'\n'}"
 expect 'a script' 0 "$answers" ''
 
 run </dev/null
-expect 'no input' 9 '' $'not built yet\n'
+expect 'no input' 0 '' ''
 
 run < <(printf 'base 2\0\377\n')
-expect 'bytes that are no text' 9 '' $'not built yet\n'
+expect 'bytes that are no text' 3 '' $'line 1: not a statement\n'
+
+run < <(printf 'base 2\r\nover 2 z^2+z+1\r\ncheck [z, 1] [z, z] 1 # \377\r\n\r\nrank t\r\n')
+expect 'carriage returns, and a name that is none' 3 '' $'line 5: not a statement\n'
+
+run <<<$'base 2\nover 2 z^2+z+1\nrank phi\n'
+expect 'a stop' 5 $'q = 2\nn = 2\n' $'line 3: unknown name\n'
 
 run x <<<"$script"
 expect 'a word' 2 '' $'words refused\n'
@@ -57,7 +63,7 @@ run < <(head -c 65537 /dev/zero | tr '\0' '#')
 expect 'one byte too many' 4 '' $'too large: script\n'
 
 run < <(head -c 65536 /dev/zero | tr '\0' '#')
-expect 'as many bytes as fit' 9 '' $'not built yet\n'
+expect 'as many bytes as fit' 0 '' ''
 
 run <&-
 expect 'a closed input' 7 '' $'read failed\n'
@@ -88,12 +94,26 @@ expect_told 'a full output' 8 $'write failed\n'
 status=$?
 [[ $status -eq 2 ]] || fail "closed errors: status $status, not 2"
 
-# Each example has its expected output beside it.
-for example in examples/*.drinfeld; do
-    run <"$example"
-    expect_told "$example" 0 ''
-    cmp -s "$folder/output" "${example%.drinfeld}.expected" || fail "$example: wrote '$(<"$folder/output")'"
-done
+# like NAME: what FILE.drinfeld writes, tells and ends with, against FILE.expected, FILE.errors and
+# FILE.status, of which the last two are missing where nothing is told and the status is 0.
+like() {
+    run <"$1.drinfeld"
+    [[ $status -eq $(cat "$1.status" 2>/dev/null || echo 0) ]] || fail "$1: status $status"
+    cmp -s "$folder/output" "$1.expected" || fail "$1: wrote '$(<"$folder/output")'"
+    cmp -s "$folder/errors" <(cat "$1.errors" 2>/dev/null) || fail "$1: told '$(<"$folder/errors")'"
+}
+
+for example in examples/*.drinfeld; do like "${example%.drinfeld}"; done
+
+# The scripts of the tutorial, each with the blocks that follow it; one that tells a fault ends with 5.
+awk -v folder="$folder" '
+    /^```/ && file { close(file); file = ""; next }
+    /^```drinfeld$/ { count++; file = folder "/tutorial-" count ".drinfeld"; next }
+    /^```output$/ { file = folder "/tutorial-" count ".expected"; next }
+    /^```errors$/ { file = folder "/tutorial-" count ".errors"; print 5 >(folder "/tutorial-" count ".status"); next }
+    file { print >file }' docs/tutorial.md
+[[ -s $folder/tutorial-1.drinfeld ]] || fail 'the tutorial has no script'
+for script_file in "$folder"/tutorial-*.drinfeld; do like "${script_file%.drinfeld}"; done
 
 # The launcher finds the program from any folder, and through a link.
 ln -s "$PWD/drinfeld" "$folder/link"
@@ -101,16 +121,20 @@ ln -s "$PWD/drinfeld" "$folder/link"
 status=$?
 expect 'another folder' 0 "$answers" ''
 
-# The launcher, with a stub for the toolchain: what it builds tells how often it was built.
+# The launcher, with a stub for the toolchain: what it builds tells how often it was built, and `proved`
+# which crates were proved, in their order.
 tree=$folder/tree
 crate=$tree/crates/drinfeld
-mkdir -p "$crate/src" "$folder/bin"
+mkdir -p "$folder/bin" "$tree"/crates/{low,side,high,tests_high,drinfeld}/src
 cp drinfeld "$tree/"
-touch "$tree/crates.txt" "$crate/stdin" "$crate/src/main.rt" "$crate/src/other.rt"
+printf '%s\n' '# layers' 'low: kit_crate' 'side: # alone' 'high: low' 'tests_high: high low' 'drinfeld: high side' >"$tree/crates.txt"
+touch "$crate/stdin" "$crate/src/main.rt" "$crate/src/other.rt"
 cat >"$folder/bin/rt" <<'STUB'
 #!/usr/bin/env bash
 [[ -e fails ]] && echo 'a fault' && exit 1
 [[ -e edits ]] && sleep 0.05 && touch src/main.rt && rm edits
+basename "$PWD" >>../../proved
+[[ $1 == run ]] || exit 0
 mkdir -p out && echo built >>out/builds
 printf '#!/bin/sh\ngrep -c built "%s"\n' "$PWD/out/builds" >out/drinfeld
 chmod +x out/drinfeld
@@ -127,19 +151,28 @@ launch() {
 }
 
 launch 'nothing built' 1
+[[ $(sort "$tree/proved" | tr '\n' ' ') == 'drinfeld high low side ' ]] || fail "launcher: proved $(<"$tree/proved")"
+[[ $(grep -E 'low|high|drinfeld' "$tree/proved" | tr '\n' ' ') == 'low high drinfeld ' ]] || fail "launcher: in the order $(<"$tree/proved")"
+grep -qx 'drinfeld: proving high, [0-9] more to begin' "$folder/errors" || fail "launcher: told $(<"$folder/errors")"
 launch 'nothing changed' 1
 touch "$crate/src/main.rt"
 launch 'a source changed' 2
+touch "$tree/crates/low/src/lib.rt"
+launch 'a source below changed' 3
+touch "$tree/crates/tests_high/src/lib.rt"
+launch 'a source on which the program does not stand' 3
 rm "$crate/src/other.rt"
-launch 'a source is gone' 3
+launch 'a source is gone' 4
 touch "$crate/edits" "$crate/src/main.rt"
-launch 'a source changes during the build' 4
-launch 'it is built again' 5
-launch 'and then stays' 5
+launch 'a source changes during the build' 5
+launch 'it is built again' 6
+launch 'and then stays' 6
 
-touch "$crate/fails" "$crate/src/main.rt"
+touch "$tree/crates/low/fails" "$tree/crates/low/src/lib.rt"
 PATH=$folder/bin:$PATH "$tree/drinfeld" >"$folder/output" 2>"$folder/errors"
 status=$?
-expect 'a build that fails' 1 '' $'drinfeld: proving and building the program, which takes minutes the first time\na fault\ndrinfeld: the program was not built\n'
+[[ $status -eq 1 && ! -s $folder/output ]] || fail "launcher, a proof that fails: status $status"
+grep -qx 'a fault' "$folder/errors" && grep -qx 'drinfeld: the program was not built' "$folder/errors" || fail "launcher, a proof that fails: told $(<"$folder/errors")"
+grep -q 'proving high' "$folder/errors" && fail 'launcher, a proof that fails: went on above it'
 
 exit $((failures > 0))
