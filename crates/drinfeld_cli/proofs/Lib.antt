@@ -1,2 +1,5 @@
-pub mod Prefixes
+pub mod Ran
+pub mod Once
 pub mod Completeness
+pub mod CompleteStop
+pub mod FaultLine

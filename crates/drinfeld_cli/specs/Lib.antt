@@ -1,2 +1,5 @@
-pub mod StatusTexts
+pub mod Complete
 pub mod Run
+pub mod Runs
+pub mod StatusTexts
+pub mod steps

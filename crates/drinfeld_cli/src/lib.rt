@@ -1,8 +1,9 @@
 //! The program as a function: from the words, the bytes of a script and two sinks to a status.
 #![tactic(auto)]
 
+mod fault_line;
 mod program;
 mod status;
 
-pub use program::{SCRIPT_LIMIT, run};
-pub use status::{SizeKind, Status};
+pub use program::run;
+pub use status::Status;

@@ -1,0 +1,20 @@
+use Rattle.std.proofs.Common.{rules, subst}
+use Rattle.text_io.specs.Bytes.{Rose}
+use Rattle.drinfeld_cli.specs.Runs.{plain}
+use Rattle.drinfeld_cli.proofs.Ran.{read_at, one_more, one_cut}
+use Rattle.drinfeld_cli.proofs.program.answer_all.Goals as goal
+
+pub loop-statement-preserved : goal.loop-statement-preserved
+loop-statement-preserved g c = record {
+  run = one_more plain c.args.list.now c.loop-statement.statement-index c.statement-item.result _ _ _ _ _ c.loop-statement.invariant.run
+      (read_at _ _ _ c.loop-statement-test.true c.statement-item.is) c.in-Ok.ensures.says;
+  sound = search rules;
+}
+
+pub returns-in-Err-WriteFault-clause-ended : goal.returns-in-Err-WriteFault-clause-ended
+returns-in-Err-WriteFault-clause-ended g c =
+    let says = rw c.in-Err-WriteFault.field-0-is at c.in-Err-WriteFault.ensures.says in (
+      subst (λ n. Rose n (g.O.Sink.faults c.answer_one.new.output)) c.loop-statement.invariant.sound says.0,
+      one_cut plain c.args.list.now c.loop-statement.statement-index c.statement-item.result _ _ _ _ _ c.loop-statement.invariant.run
+          (read_at _ _ _ c.loop-statement-test.true c.statement-item.is) says.1,
+    )

@@ -1,4 +1,0 @@
-pub mod Grammar
-pub mod Meaning
-pub mod Reading
-pub mod Script

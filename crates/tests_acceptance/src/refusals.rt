@@ -1,0 +1,79 @@
+//! Which of two refusals is told where both apply: for each refusal and the one that comes after it. In the
+//! tables a semicolon ends a line.
+
+use super::runs::check_rows;
+use std::test::Fail;
+
+/// Fields and names: not built, then the field, then unknown names, then names of the other kind, then names
+/// that are taken.
+const NAMES: &str = "frob nope =>  => 9 line 1: not built yet
+rdiv t 0 =>  => 9 line 1: not built yet
+rank nope =>  => 5 line 1: no field yet
+over 2 z =>  => 5 line 1: no field yet
+base 2;rank nope => q = 2 => 5 line 2: no field yet
+base 2;base 2 2 a => q = 2 => 5 line 2: the field is already set
+base 2;over 2 z^2+z+1;base 3 => q = 2;n = 2 => 5 line 3: the field is already set
+base 2;over 2 z^2+z+1;over 2 z^2 => q = 2;n = 2 => 5 line 3: the field is already set
+base 2;over 2 z^2+z+1;over 2 z^2+z+1 => q = 2;n = 2 => 5 line 3: the field is already set
+base 2;over 1 z;module m = [1, 1];ore u = t;add nope m as u => q = 2;n = 1;m = [1, 1];u = t => 5 line 5: unknown name
+base 2;over 1 z;module m = [1, 1];ore u = t;add m nope as u => q = 2;n = 1;m = [1, 1];u = t => 5 line 5: unknown name
+base 2;over 1 z;module m = [1, 1];ore u = t;check u m nope => q = 2;n = 1;m = [1, 1];u = t => 5 line 5: unknown name
+base 2;over 1 z;module m = [1, 1];ore u = t;check nope u m => q = 2;n = 1;m = [1, 1];u = t => 5 line 5: unknown name
+base 2;over 1 z;show nope => q = 2;n = 1 => 5 line 3: unknown name
+base 2;over 1 z;ore u = v => q = 2;n = 1 => 5 line 3: unknown name
+base 2;over 1 z;module m = [1, 1];ore u = t;add m u as u => q = 2;n = 1;m = [1, 1];u = t => 5 line 5: wrong kind of name
+base 2;over 1 z;module m = [1, 1];ore u = t;mul u m => q = 2;n = 1;m = [1, 1];u = t => 5 line 5: wrong kind of name
+base 2;over 1 z;ore u = t;rank u => q = 2;n = 1;u = t => 5 line 4: wrong kind of name
+base 2;over 1 z;module m = [1, 1];ore u = m => q = 2;n = 1;m = [1, 1] => 5 line 4: wrong kind of name
+base 2;over 1 z;module m = [1, 1];ore m = m => q = 2;n = 1;m = [1, 1] => 5 line 4: wrong kind of name";
+
+/// Taken names before sizes, and before lists that are no modules; those after names, and before constants that
+/// differ; moduli that aren't monic before reducible ones.
+const WORK: &str = "base 2;over 1 z;ore u = t^128;mul u t as u => q = 2;n = 1;u = t^128 => 5 line 4: the name is taken
+base 2;over 1 z;module m = [1, 1];module m = [1, 0] => q = 2;n = 1;m = [1, 1] => 5 line 4: the name is taken
+base 2;over 2 z^2+z+1;module m = [z, 1];module m = [z, z] => q = 2;n = 2;m = [z, 1] => 5 line 4: the name is taken
+base 2;over 1 z;ore u = t;add u u as u => q = 2;n = 1;u = t => 5 line 4: the name is taken
+base 2;over 1 z;ore u = t^128;mul u t => q = 2;n = 1;u = t^128 => 4 line 4: too large: degree
+base 2;over 1 z;ore u = t^64;mul u t^65+1 as v => q = 2;n = 1;u = t^64 => 4 line 4: too large: degree
+base 2;over 1 z;check [1] nope 1 => q = 2;n = 1 => 5 line 3: unknown name
+base 2;over 1 z;ore u = t;check [1] u 1 => q = 2;n = 1;u = t => 5 line 4: wrong kind of name
+base 2;over 2 z^2+z+1;check [z] [z+1, 1] 1 => q = 2;n = 2 => 5 line 3: not a module
+base 2;over 2 z^2+z+1;check [z, 1] [z+1, 0] 1 => q = 2;n = 2 => 5 line 3: not a module
+base 3;over 2 2*z^2 => q = 3 => 5 line 2: the modulus is not monic of the stated degree
+base 3 2 2*a^2 =>  => 5 line 1: the modulus is not monic of the stated degree";
+
+/// Each form that isn't built yet, with operands that would be refused.
+const NOT_BUILT: &str = "char [1] =>  => 9 line 1: not built yet
+height [1] =>  => 9 line 1: not built yet
+ordinary [1] =>  => 9 line 1: not built yet
+supersingular [1] =>  => 9 line 1: not built yet
+j [1] 0 =>  => 9 line 1: not built yet
+image [1] T as v =>  => 9 line 1: not built yet
+rdiv 1 0 =>  => 9 line 1: not built yet
+ldiv 1 0 =>  => 9 line 1: not built yet
+common 1 0 =>  => 9 line 1: not built yet
+multiple 1 0 =>  => 9 line 1: not built yet
+quotient [1] 0 as v =>  => 9 line 1: not built yet
+iso [1] [1] =>  => 9 line 1: not built yet
+isogenous [1] [1] =>  => 9 line 1: not built yet
+bounded [1] [1] 0 =>  => 9 line 1: not built yet
+full [1] [1] =>  => 9 line 1: not built yet
+fullsize [1] [1] =>  => 9 line 1: not built yet
+motive [1] 1 =>  => 9 line 1: not built yet
+frobpower [1] =>  => 9 line 1: not built yet
+base 2;over 2 z^2+z+1;frob [z, 1];rank [z, 1] => q = 2;n = 2 => 9 line 3: not built yet";
+
+#[test]
+fn tells_names_in_order(rt: HostRuntime) -> Result<(), Fail> {
+    check_rows(&rt, rt.alloc(), NAMES)
+}
+
+#[test]
+fn tells_work_in_order(rt: HostRuntime) -> Result<(), Fail> {
+    check_rows(&rt, rt.alloc(), WORK)
+}
+
+#[test]
+fn tells_what_is_not_built(rt: HostRuntime) -> Result<(), Fail> {
+    check_rows(&rt, rt.alloc(), NOT_BUILT)
+}
