@@ -26,7 +26,8 @@ base 2 2 a^2+a+1;over 1 z+a;ore u = a^2*t+z => q = 4;n = 1;u = a + (a+1)*t
 base 2;over 1 z-1;ore u = z => q = 2;n = 1;u = 1";
 
 /// Arithmetic over `F_4`, whose letter has `z^2 = z+1` and `z^3 = 1`, with `t z = z^2 t`.
-const ARITHMETIC: &str = "base 2;over 2 z^2+z+1;mul t z;mul z t;add t+1 z+t;sub t t => q = 2;n = 2;(z+1)*t;z*t;z+1;0
+const ARITHMETIC: &str =
+    "base 2;over 2 z^2+z+1;mul t z;mul z t;add t+1 z+t;sub t t => q = 2;n = 2;(z+1)*t;z*t;z+1;0
 base 2;over 2 z^2+z+1;ore u = t^128;mul u 1;mul 0 u;mul u 0 => q = 2;n = 2;u = t^128;t^128;0;0
 base 2;over 2 z^2+z+1;mul [0, 1] [0, z];mul [] t;mul [z, 0] 1 => q = 2;n = 2;(z+1)*t^2;0;z
 base 2;over 2 z^2+z+1;ore u = z^128;ore v = z^0*t^0;ore w = z^3*(z-1)*t => q = 2;n = 2;u = z+1;v = 1;w = (z+1)*t
@@ -37,7 +38,8 @@ base 5;over 1 z;ore u = -2*t+3;ore v = -(1-2)*t^2-1;sub u v => q = 5;n = 1;u = 3
 
 /// Modules, names and homomorphisms. The second of each pair of `check` differs from the first in one
 /// place. A name may be the first word of a statement, and begins with a letter that means something.
-const MODULES: &str = "base 2;over 2 z^2+z+1;module phi = [z, 1];ore u = -t;check phi phi u;show phi => q = 2;n = 2;phi = [z, 1];u = t;no;[z, 1]
+const MODULES: &str =
+    "base 2;over 2 z^2+z+1;module phi = [z, 1];ore u = -t;check phi phi u;show phi => q = 2;n = 2;phi = [z, 1];u = t;no;[z, 1]
 base 2;over 2 z^2+z+1;check [z, 1] [z, z] [z+1];check [z, 1] [z, z] [1] => q = 2;n = 2;yes;no
 base 2;over 2 z^2+z+1;check [z, 1] [z, z] z+1;check [z, z] [z, 1] z+1;check [z, z] [z, 1] z => q = 2;n = 2;yes;no;yes
 base 2;over 2 z^2+z+1;check [z, 1] [z, 1] [];check [z, 1] [z, 1] 0 => q = 2;n = 2;yes;yes

@@ -28,13 +28,7 @@ fn refuses_a_long_script(rt: HostRuntime) -> Result<(), Fail> {
     let line = b"too large: script\n";
     check_comment(&rt, alloc, 65537, sink_of(alloc, &[])?, (4, line))?;
     check_comment(&rt, alloc, 65537, sink_of(alloc, &[1])?, (4, b""))?;
-    check_comment(
-        &rt,
-        alloc,
-        65536,
-        sink_of(alloc, &[])?,
-        (0, b""),
-    )?;
+    check_comment(&rt, alloc, 65536, sink_of(alloc, &[])?, (0, b""))?;
     check_comment(&rt, alloc, 65536, sink_of(alloc, &[1])?, (0, b""))
 }
 
@@ -90,7 +84,13 @@ fn tells_a_failed_read(rt: HostRuntime) -> Result<(), Fail> {
         check_read(&rt, alloc, call, errors, (7, b"", b"read failed\n"))?;
     }
     check_read(&rt, alloc, 1, sink_of(alloc, &[1])?, (7, b"", b""))?;
-    check_read(&rt, alloc, READS + 1, sink_of(alloc, &[])?, (0, OUTPUT, b""))
+    check_read(
+        &rt,
+        alloc,
+        READS + 1,
+        sink_of(alloc, &[])?,
+        (0, OUTPUT, b""),
+    )
 }
 
 /// What the script writes, in three texts.
@@ -143,7 +143,11 @@ fn writes_each_text_by_one_call(rt: HostRuntime) -> Result<(), Fail> {
     let errors = sink_of(alloc, &[])?;
     check_write(&rt, alloc, sink_of(alloc, &[4])?, errors, (0, OUTPUT, b""))?;
     let errors = sink_of(alloc, &[])?;
-    let want = (8, b"q = 2\nn = 2\n".as_slice(), b"write failed\n".as_slice());
+    let want = (
+        8,
+        b"q = 2\nn = 2\n".as_slice(),
+        b"write failed\n".as_slice(),
+    );
     check_write(&rt, alloc, sink_of(alloc, &[3])?, errors, want)
 }
 

@@ -29,7 +29,8 @@ base 2;over 1 z;module m = [1, 1];ore m = m => q = 2;n = 1;m = [1, 1] => 5 line 
 
 /// Taken names before sizes, and before lists that are no modules; those after names, and before constants that
 /// differ; moduli that aren't monic before reducible ones.
-const WORK: &str = "base 2;over 1 z;ore u = t^128;mul u t as u => q = 2;n = 1;u = t^128 => 5 line 4: the name is taken
+const WORK: &str =
+    "base 2;over 1 z;ore u = t^128;mul u t as u => q = 2;n = 1;u = t^128 => 5 line 4: the name is taken
 base 2;over 1 z;module m = [1, 1];module m = [1, 0] => q = 2;n = 1;m = [1, 1] => 5 line 4: the name is taken
 base 2;over 2 z^2+z+1;module m = [z, 1];module m = [z, z] => q = 2;n = 2;m = [z, 1] => 5 line 4: the name is taken
 base 2;over 1 z;ore u = t;add u u as u => q = 2;n = 1;u = t => 5 line 4: the name is taken

@@ -45,7 +45,8 @@ base 3 2 2*a^2+1 =>  => 5 line 1: the modulus is not monic of the stated degree
 base 3 1 a-a =>  => 5 line 1: the modulus is not monic of the stated degree";
 
 /// Lists that are no modules, and constants that differ.
-const OPERANDS: &str = "base 2;over 1 z;check [1] [1, 1] [1] => q = 2;n = 1 => 5 line 3: not a module
+const OPERANDS: &str =
+    "base 2;over 1 z;check [1] [1, 1] [1] => q = 2;n = 1 => 5 line 3: not a module
 base 2;over 1 z;check [1, 0] [1, 1] [1] => q = 2;n = 1 => 5 line 3: not a module
 base 2;over 1 z;check [1, 1] [1, 2] [1] => q = 2;n = 1 => 5 line 3: not a module
 base 2;over 2 z^2+z+1;rank [z, 1, 0] => q = 2;n = 2 => 5 line 3: not a module
