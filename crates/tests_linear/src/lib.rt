@@ -2,7 +2,7 @@
 #![tactic(auto)]
 
 ghost use Rattle.std.specs.Prelude.{◌≡◌};
-ghost use Rattle.linear_tests.specs.BitField.{bit_ops, bit_inv, bit_laws};
+ghost use Rattle.tests_linear.specs.BitField.{bit_ops, bit_inv, bit_laws};
 
 use ring_core::Field;
 

@@ -1,12 +1,13 @@
 //! Towers against the plain computation: sums, products, negatives, inverses and the Frobenius.
 
-use super::data::{SIXTEEN, make_top, top_data, top_element, top_number};
+use super::data::{SIXTEEN, top_element, top_number};
 use super::plain::{Modulo, Numbers, Residues, next_power, next_sample, sample_element};
 use field_tower::{TopElem, Tower};
 use ring_core::{Field, FrobField};
 use std::alloc::Global;
 use std::process::Abort;
 use std::test::Fail;
+use tests_support::fields::{make_top, top_data};
 
 /// `F_2[z] / (z^12 + z^3 + 1)`; `F_256[z] / (z^3 + a + 1)` and `F_9[z] / (z^2 - a - 1)`, in both of
 /// which `a + 1` generates the units, and so is no cube and no square; `F_5[z] / (z^3 + z + 1)`.

@@ -1,13 +1,14 @@
 //! All moduli of small degree: a field is made exactly where a plain count finds no pair of nonzero
 //! residues that multiply to zero.
 
-use super::data::{codes, top_number};
+use super::data::top_number;
 use super::plain::{Modulo, Numbers, ROOM, Residues, digits, has_pair, is_pair};
 use field_tower::{BaseFault, BaseField, Code, Tower, TowerFault};
 use ring_core::lists::all_elems;
 use std::alloc::Global;
 use std::process::Abort;
 use std::test::Fail;
+use tests_support::fields::codes;
 
 /// The monic polynomial of this degree whose lower coefficients are the digits of `a`.
 fn monic(alloc: Global, p: u32, degree: u32, a: u32) -> Result<Vec<u32>, Fail> {

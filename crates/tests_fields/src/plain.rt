@@ -2,7 +2,7 @@
 //! a ring. An element is a number below the size of its ring. The coefficients of a residue are the
 //! digits of its number, lowest first, in the base that is the size of the ring of constants.
 ghost use Rattle.std.specs.Prelude.{◌+◌, ◌≤◌};
-ghost use Rattle.field_tests.specs.declared.plain.TheConstants.{MOST, ROOM};
+ghost use Rattle.tests_fields.specs.declared.plain.TheConstants.{MOST, ROOM};
 
 /// The greatest degree of a modulus.
 const MOST: usize = 16;

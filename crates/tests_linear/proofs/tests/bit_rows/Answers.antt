@@ -1,8 +1,8 @@
 use Rattle.std.proofs.Common.{◌∙◌, ap}
 use Rattle.linear_algebra.specs.Linear.{are_rows, is_row}
 use Rattle.linear_algebra.proofs.RowLists.{rows_push}
-use Rattle.linear_tests.specs.BitField.{bit_ops}
-use Rattle.linear_tests.proofs.tests.bit_rows.Goals as goal
+use Rattle.tests_linear.specs.BitField.{bit_ops}
+use Rattle.tests_linear.proofs.tests.bit_rows.Goals as goal
 
 pub loop-x-preserved : goal.loop-x-preserved
 loop-x-preserved c = record {

@@ -1,6 +1,6 @@
 ghost use Rattle.std.specs.Prelude.{◌≡◌, ◌<◌, true, IfOk, length, vec_len};
 ghost use Rattle.linear_algebra.specs.Linear.{are_rows, is_row};
-ghost use Rattle.linear_tests.specs.BitField.{bit_ops};
+ghost use Rattle.tests_linear.specs.BitField.{bit_ops};
 
 use super::BitField;
 use fq_linear::{Rows, echelon, first_dependence, kernel, solve};

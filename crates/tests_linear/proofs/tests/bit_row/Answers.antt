@@ -2,8 +2,8 @@ use Rattle.std.proofs.Common.{◌+◌, length, refl, ◌∙◌, ap, arith, eq-eq
 use Rattle.std.proofs.lemmas.Bool.{and_from}
 use Rattle.std.proofs.lemmas.List.{length_push}
 use Rattle.ring_core.proofs.Coefficients.{elems_more}
-use Rattle.linear_tests.specs.BitField.{bit_ops}
-use Rattle.linear_tests.proofs.tests.bit_row.Goals as goal
+use Rattle.tests_linear.specs.BitField.{bit_ops}
+use Rattle.tests_linear.proofs.tests.bit_row.Goals as goal
 
 pub loop-j-preserved : goal.loop-j-preserved
 loop-j-preserved c = record {

@@ -1,7 +1,7 @@
 //! Minimal polynomials against the product of `x - b` over the different conjugates `b`, by the plain
 //! computation.
 
-use super::data::{SIXTEEN, codes, make_top, top_data, top_element};
+use super::data::{SIXTEEN, top_element};
 use super::plain::{Modulo, Numbers, Residues, next_power, next_sample, sample_element};
 use field_tower::{Code, TopElem, Tower};
 use fq_poly::Poly;
@@ -9,6 +9,7 @@ use ring_core::{Field, FrobField};
 use std::alloc::Global;
 use std::process::Abort;
 use std::test::Fail;
+use tests_support::fields::{codes, make_top, top_data};
 
 /// `F_4` over two elements.
 const FOUR: &str = "2 1; 0 1 | 2; 1 1 1";

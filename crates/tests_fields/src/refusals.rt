@@ -1,12 +1,12 @@
 //! What making fields answers, row by row.
 
-use super::data::{BaseData, TopData, base_data, codes, make_base, numbers, top_data};
 use super::plain::{Modulo, Numbers, Residues, is_pair};
 use field_tower::{BaseFault, BaseField, TopElem, Tower, TowerFault, TowerRefused, WIDTH};
 use ring_core::lists::all_elems;
 use std::alloc::Global;
 use std::process::Abort;
 use std::test::Fail;
+use tests_support::fields::{BaseData, TopData, base_data, codes, make_base, numbers, top_data};
 
 /// Data of base fields. `a^2 + 1` is `(a + 1)^2` over two elements. Over three, where the rows have
 /// numbers above 2, `a^2 + 1` is irreducible and `a^2 - 1` is `(a - 1) (a + 1)`.

@@ -1,12 +1,12 @@
 //! Sums, products, negatives and inverses of base fields against the plain computation.
 
-use super::data::{base_data, make_base};
 use super::plain::{Modulo, Numbers, Residues, next_sample, sample_element};
 use field_tower::{BaseField, Code};
 use ring_core::Field;
 use std::alloc::Global;
 use std::process::Abort;
 use std::test::Fail;
+use tests_support::fields::{base_data, make_base};
 
 /// The fields with at most 16 elements: the primes to 13, `F_4`, and `F_8`, `F_9` and `F_16` by every
 /// modulus.

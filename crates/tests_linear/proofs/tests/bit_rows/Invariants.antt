@@ -1,7 +1,7 @@
 use Rattle.std.proofs.Common.{◌≡◌, true}
 use Rattle.linear_algebra.specs.Linear.{are_rows}
-use Rattle.linear_tests.specs.BitField.{bit_ops}
-use Rattle.linear_tests.proofs.tests.bit_rows.Given as goal
+use Rattle.tests_linear.specs.BitField.{bit_ops}
+use Rattle.tests_linear.proofs.tests.bit_rows.Given as goal
 
 abbrev pub invariant-loop-x : goal.invariant-loop-x
 invariant-loop-x l = record {

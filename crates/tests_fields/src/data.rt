@@ -1,0 +1,29 @@
+//! Elements of fields as the numbers with their digits.
+use super::plain::{ROOM, digits, number};
+use field_tower::{Code, TopElem, WIDTH};
+use std::process::Abort;
+
+/// `F_4[z] / (z^2 + z + a)`.
+pub const SIXTEEN: &str = "2 2; 1 1 1 | 2; 2 1 1";
+
+/// The number whose digits in base `q` are the places of `c`, of which each must be a digit.
+pub fn top_number(rt: &impl Abort, q: u32, c: TopElem) -> u32 {
+    let mut list = [0; ROOM];
+    for i in 0..WIDTH {
+        list[i] = c.0[i] as u32;
+    }
+    let a = number(q, &list);
+    assert_eq!(rt; top_element(q, a).0, c.0);
+    a
+}
+
+/// The element whose places are the digits of `a` in base `q`, where `q` is at most the number of
+/// codes.
+pub fn top_element(q: u32, a: u32) -> TopElem {
+    let list = digits(q, WIDTH, a);
+    let mut places = [0; WIDTH];
+    for i in 0..WIDTH {
+        places[i] = Code::try_from(list[i]).unwrap_or(0);
+    }
+    TopElem(places)
+}
