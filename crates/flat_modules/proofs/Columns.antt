@@ -97,15 +97,15 @@ module _ {M : Type 0} (R : RingOn M) (n : ℕ) (posn : 0 < n) where
           sym (combine_more R len big x (λ k. part k) t (omega arith) short)
           ∙ total_single R big (at t) (λ k. R.mul (x k) (part k t)) (omega arith) (λ k _ ne. elim (same_or_other t ((k / n + e) * n + q)) [
             | inl same ↦ elim (same_or_other (k % n) p) [
-                | inl kp ↦
-                    let number = div-mul-add (k / n + e) n q lq in
-                    let wholek = div-add-mod' k n in
-                    let level : t / n ≡ k / n + e = ap (λ a. a / n) same ∙ number in
-                    let v : k / n ≡ t / n - e = omega (arith, level) in
-                    let w = ap (λ a. a * n) v in
-                    absurd (ne (omega (arith, wholek, kp, w)))
-                | inr other ↦ ap (R.mul (x k)) (part_other k t other) ∙ mul_zero R (x k)
-              ]
+              | inl kp ↦
+                  let number = div-mul-add (k / n + e) n q lq in
+                  let wholek = div-add-mod' k n in
+                  let level : t / n ≡ k / n + e = ap (λ a. a / n) same ∙ number in
+                  let v : k / n ≡ t / n - e = omega (arith, level) in
+                  let w = ap (λ a. a * n) v in
+                  absurd (ne (omega (arith, wholek, kp, w)))
+              | inr other ↦ ap (R.mul (x k)) (part_other k t other) ∙ mul_zero R (x k)
+            ]
             | inr other ↦ ap (R.mul (x k)) (part_zero k t other) ∙ mul_zero R (x k)
           ])
           ∙ ap (R.mul (x (at t))) (part_one (at t) t rest here) ∙ comm (x (at t)) b

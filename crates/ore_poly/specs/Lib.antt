@@ -1,4 +1,2 @@
 pub mod Terms
 pub mod ProductLaws
-pub mod Module
-pub mod Homomorphism
