@@ -1,6 +1,7 @@
-use Rattle.std.proofs.Common.{rules, subst}
+use Rattle.std.proofs.Common.{◌≡◌, length, rules, subst, arith}
 use Rattle.text_io.specs.Bytes.{Rose}
-use Rattle.drinfeld_cli.specs.Runs.{plain}
+use Rattle.session.specs.Of.{state_of}
+use Rattle.drinfeld_cli.specs.Runs.{plain, HasRun}
 use Rattle.drinfeld_cli.proofs.Ran.{read_at, one_more, one_cut}
 use Rattle.drinfeld_cli.proofs.program.answer_all.Goals as goal
 
@@ -18,3 +19,10 @@ returns-in-Err-WriteFault-clause-ended g c =
       one_cut plain c.args.list.now c.loop-statement.statement-index c.statement-item.result _ _ _ _ _ c.loop-statement.invariant.run
           (read_at _ _ _ c.loop-statement-test.true c.statement-item.is) says.1,
     )
+
+pub returns-clause-ended : goal.returns-clause-ended
+returns-clause-ended g c =
+    let index = c.loop-statement.statement-index in
+    let state = state_of c.loop-statement.session in
+    let all : index ≡ length c.args.list.now = omega (arith, c.loop-statement-test.false, c.loop-statement.auto.statement-index-end) in
+    (state, subst (λ k. HasRun plain c.args.list.now k state (g.O.Sink.written c.args.output.now) (g.O.Sink.written c.loop-statement.output)) all c.loop-statement.invariant.run)
