@@ -1,5 +1,6 @@
 -- The text of an answer: its lines, each with a line feed.
 use Rattle.std.specs.Prelude.{ℕ, Bool, true, false, Option, Some, None, List, [], ◌++◌, codes, decimal}
+use Rattle.residue_field.specs.declared.TopElem.{TopElem}
 use Rattle.residue_field.specs.Top.{Top}
 use Rattle.answer.specs.declared.value.Answer.{Answer}
 use Rattle.answer.specs.declared.value.Answer.TheVariants as answer
@@ -39,6 +40,10 @@ abbrev pub over : Option Top → (Top → List ℕ) → List ℕ
 over None text = []
 over (Some t) text = text t
 
+-- A common divisor or multiple of two operands, and the cofactors of the left and of the right one.
+abbrev pub with_cofactors : Top → List ℕ → List TopElem → List TopElem → List TopElem → List ℕ
+with_cofactors t label u s w = line label (twisted_text t u) ++ line (codes "left ") (twisted_text t s) ++ line (codes "right ") (twisted_text t w)
+
 -- The lines of an answer, whose elements are those of the top field.
 unfoldable pub text_over : Option Top → Answer → List ℕ
 text_over top (answer.Q q) = line (codes "q = ") (decimal q)
@@ -50,6 +55,13 @@ text_over top (answer.Truth b) = line [] (truth_text b)
 text_over top (answer.BasePoly a) = over top (λ t. line [] (polynomial_text t.base a))
 text_over top (answer.Element c) = over top (λ t. line [] (element_text t c))
 text_over top (answer.Twisted u) = over top (λ t. line [] (twisted_text t u))
+text_over top (answer.Division c rest) = over top (λ t. line (codes "quotient ") (twisted_text t c) ++ line (codes "remainder ") (twisted_text t rest))
+text_over top (answer.Common c) = over top (λ t. with_cofactors t (codes "divisor ") c.d c.s c.w)
+text_over top (answer.Multiple m) = over top (λ t. with_cofactors t (codes "multiple ") m.m m.s m.w)
+text_over top (answer.Quotient phi) = over top (λ t. line (codes "quotient ") (module_text t phi))
+text_over top answer.NoneZero = line [] (codes "no quotient: zero")
+text_over top (answer.NoneRemainder rest) = over top (λ t. line (codes "no quotient: remainder ") (twisted_text t rest))
+text_over top (answer.NoneConstant c) = over top (λ t. line (codes "no quotient: constant ") (element_text t c))
 
 -- The text of an answer in a field.
 abbrev pub text_of : FieldState → Answer → List ℕ

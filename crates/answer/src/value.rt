@@ -1,6 +1,7 @@
 use drinfeld_mod::Module;
 use field_tower::{Code, TopElem};
 use fq_poly::Poly;
+use ore_divide::{Common, Multiple};
 use ore_poly::Ore;
 use script_lang::Name;
 
@@ -32,4 +33,21 @@ pub enum Answer {
     Element(TopElem),
     /// A twisted polynomial.
     Twisted(Ore<TopElem>),
+    /// Quotient and remainder of a division of twisted polynomials.
+    Division {
+        quotient: Ore<TopElem>,
+        remainder: Ore<TopElem>,
+    },
+    /// The greatest common right divisor of two twisted polynomials, with its cofactors.
+    Common(Common<TopElem>),
+    /// The least common left multiple of two twisted polynomials, with its factors.
+    Multiple(Multiple<TopElem>),
+    /// The quotient of a Drinfeld module by a twisted polynomial.
+    Quotient(Module<TopElem>),
+    /// There is no quotient by zero.
+    NoneZero,
+    /// There is no quotient, for division leaves this remainder.
+    NoneRemainder(Ore<TopElem>),
+    /// There is no quotient, for the other factor has this constant.
+    NoneConstant(TopElem),
 }

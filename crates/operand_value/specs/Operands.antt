@@ -14,9 +14,13 @@ unfoldable pub base_modulus : ℕ → Option Sum → List ℕ
 base_modulus p None = 0 ∷ 1 ∷ []
 base_modulus p (Some s) = poly_value (prime_ops p) (prime_letters p) s
 
+-- The polynomial over a base that is typed, in `z` or in `T`.
+unfoldable pub base_polynomial : Base → Sum → List ℕ
+base_polynomial k s = poly_value (ops_of k) (base_letters k) s
+
 -- The modulus of a top field over a base: the polynomial in `z` that is typed.
-unfoldable pub top_modulus : Base → Sum → List ℕ
-top_modulus k s = poly_value (ops_of k) (base_letters k) s
+abbrev pub top_modulus : Base → Sum → List ℕ
+top_modulus k s = base_polynomial k s
 
 -- The elements of a top field that a list of sums is.
 unfoldable pub list_values : Top → List Sum → List TopElem

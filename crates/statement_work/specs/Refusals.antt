@@ -5,7 +5,7 @@ use Rattle.std.specs.Option.{option_or}
 use Rattle.ring_core.specs.Ring.{RingOps}
 use Rattle.residue_field.specs.declared.TopElem.{TopElem}
 use Rattle.residue_field.specs.Top.{Top, ops_of_top}
-use Rattle.drinfeld_mod.specs.Module.{constant_of}
+use Rattle.drinfeld_mod.specs.Module.{constant_of, rank_of}
 use Rattle.script_statement.specs.declared.Form.{Form}
 use Rattle.script_statement.specs.declared.Form.TheVariants as form
 use Rattle.script_lang.specs.declared.ModArg.{ModArg}
@@ -39,8 +39,15 @@ size_refusal t ns f = None
 abbrev pub constants_differ : {E : Type 0} → RingOps E → List E → List E → Bool
 constants_differ r phi psi = not (r.same (constant_of r phi) (constant_of r psi))
 
+-- A Drinfeld module has the invariants `j_k` with `k` from 1 to the rank less one.
+abbrev pub has_invariant : {E : Type 0} → List E → ℕ → Bool
+has_invariant phi k = nat_lt 0 k && nat_lt k (rank_of phi)
+
 -- What a form refuses by its own meaning.
 abbrev pub own_refusal : Top → List (List ℕ × Value) → Form → Option MeaningKind
+own_refusal t ns (form.J m k) = when (not (has_invariant (module_value t ns m) k)) meaning.NoInvariant
+own_refusal t ns (form.Rdiv u v) = when (is_nil (twisted_value t ns v)) meaning.ZeroDivisor
+own_refusal t ns (form.Ldiv u v) = when (is_nil (twisted_value t ns v)) meaning.ZeroDivisor
 own_refusal t ns (form.Check m n u) = when (constants_differ (ops_of_top t) (module_value t ns m) (module_value t ns n)) meaning.OtherConstant
 own_refusal t ns f = None
 
