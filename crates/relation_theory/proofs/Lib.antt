@@ -1,0 +1,9 @@
+pub mod Euclid
+pub mod Gauss
+pub mod Relations
+pub mod PseudoDivision
+pub mod Chain
+pub mod Least
+pub mod PolyEuclid
+pub mod PowerRelations
+pub mod Bases
