@@ -12,9 +12,9 @@ use Rattle.ring_core.specs.Monomial.{constant}
 use Rattle.ring_core.proofs.Carrier.{RingOn, Element, same_element, elements, zero_mul, mul_zero, mul_neg, neg_add, minus_same}
 use Rattle.ring_core.proofs.Series.{total}
 use Rattle.ring_core.proofs.Coefficients.{elem_read}
-use Rattle.ring_core.proofs.Twist.{frob_twist, twist_of_zero, embed_zero}
+use Rattle.ring_core.proofs.Twist.{frob_twist, twist_of_zero, embed_zero, sum_single}
 use Rattle.ring_core.proofs.ListRing.{coeff-add, coeff-mul, length-list_of}
-use Rattle.ring_core.proofs.Monomial.{sum_single, monomial_in, coeff-monomial_same, coeff-monomial_other}
+use Rattle.ring_core.proofs.Monomial.{monomial_in, coeff-monomial_same, coeff-monomial_other}
 use Rattle.ring_core.proofs.Degrees.{top_nonzero, length_by_top, has_members}
 use Rattle.finite_ring.proofs.Powers.{power}
 use Rattle.linear_algebra.proofs.Dependent.{field_domain}

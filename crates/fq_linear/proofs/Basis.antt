@@ -6,7 +6,8 @@ use Rattle.ring_core.specs.Field.{IsField}
 use Rattle.ring_core.specs.Coeffs.{coeff}
 use Rattle.ring_core.proofs.Carrier.{elements, same_element}
 use Rattle.ring_core.proofs.Coefficients.{elem_read}
-use Rattle.linear_algebra.specs.Combines.{Combines, IsReduced}
+use Rattle.linear_algebra.specs.Combines.{Combines}
+use Rattle.linear_algebra.specs.steps.Slots.{AreReducedSlots}
 use Rattle.linear_algebra.specs.Linear.{row_at, entry, is_row, are_rows, lead, IsEchelon, IsEchelonBasis}
 use Rattle.linear_algebra.proofs.Sums.{by_bool}
 use Rattle.linear_algebra.proofs.Gather.{leads, lead_number, AreLeads, are_leads, spans_leads}
@@ -14,7 +15,7 @@ use Rattle.linear_algebra.proofs.Lift.{AllIn, AreIn, row_of, rows_of, to_spans, 
 use Rattle.fq_linear.proofs.Leads.{at_map, length_map, lead_is}
 
 module _ {E : Type 0} (r : RingOps E) (inv : E → Option E) (field : IsField r inv) (n w : ℕ) (mark : ℕ → Bool) (slots : ℕ → ℕ → E) (si : AllIn r slots)
-    (g : IsReduced r w mark slots) (f : ℕ → List E)
+    (g : AreReducedSlots r w mark slots) (f : ℕ → List E)
     (shape : (j : ℕ) → mark j ≡ true → j < n → is_row r n (f j) ≡ true)
     (same : (j : ℕ) → mark j ≡ true → j < n → (k : ℕ) → coeff r (f j) k ≡ slots j k) where
   abbrev basis : List (List E)

@@ -4,7 +4,8 @@ use Rattle.ring_core.specs.Ring.{RingOps, IsElem, IsRing}
 use Rattle.ring_core.specs.Coeffs.{coeff, are_elems}
 use Rattle.ring_core.proofs.Carrier.{elements, same_element, neg_mul, neg_zero, zero_mul, add_zero, add_times_zero}
 use Rattle.ring_core.proofs.Coefficients.{elem_read, coeff_past}
-use Rattle.linear_algebra.specs.Combines.{Combines, minus, IsReduced}
+use Rattle.linear_algebra.specs.Combines.{Combines}
+use Rattle.linear_algebra.specs.steps.Slots.{minus, AreReducedSlots}
 use Rattle.linear_algebra.proofs.Sums.{by_bool}
 use Rattle.linear_algebra.proofs.Spans.{minus_plus, minus_minus}
 use Rattle.linear_algebra.proofs.Insert.{Joins, IsJoined, inserted_reduced, inserted_within, old_spanned, new_spanned}
@@ -49,7 +50,7 @@ module _ {E : Type 0} (r : RingOps E) (h : IsRing r) (w : ℕ) (index : List (Op
         ∙ ap (r.add (slot r w index cells j k)) (ap (λ a. a.0) (neg_mul (elements h) (slot r w index cells j l, si j l) (coeff r row k, yi k))));
   }
 
-  pub joined_reduced : IsReduced r w mark after
+  pub joined_reduced : AreReducedSlots r w mark after
   joined_reduced =
       from_reduced r h w mark after ai
       (inserted_reduced (elements h) w (is_lead index) l _ _ mark _ (to_reduced r h w (is_lead index) (slot r w index cells) si t.reduced) joins joined)

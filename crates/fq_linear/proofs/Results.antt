@@ -8,7 +8,8 @@ use Rattle.ring_core.specs.Coeffs.{coeff, are_elems, first_values}
 use Rattle.ring_core.proofs.Carrier.{RingOn, Element, elements, same_element, neg_zero}
 use Rattle.ring_core.proofs.Coefficients.{elem_read, coeff_past, elems-first_values}
 use Rattle.ring_core.proofs.FirstValues.{length-first_values, at-first_values}
-use Rattle.linear_algebra.specs.Combines.{Combines, combined, minus, beside}
+use Rattle.linear_algebra.specs.Combines.{Combines, combined}
+use Rattle.linear_algebra.specs.steps.Slots.{minus, beside}
 use Rattle.linear_algebra.specs.Linear.{entry, is_row, are_rows, IsCombination, IsRelation, IsDependent, IsIndependent, IsSolution, IsEchelonBasis, IsFirstDependence}
 use Rattle.linear_algebra.proofs.Sums.{combine}
 use Rattle.linear_algebra.proofs.Spans.{Spans, span_as, span_rows, span_into}

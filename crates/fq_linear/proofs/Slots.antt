@@ -1,5 +1,5 @@
 -- The rows of a table by their leads, and writes to a table.
-use Rattle.linear_algebra.specs.Combines.{beside}
+use Rattle.linear_algebra.specs.steps.Slots.{beside}
 use Rattle.std.proofs.Common.{◌≡◌, ℕ, ◌+◌, ◌-◌, ◌*◌, ◌<◌, ◌≤◌, inl, inr, true, cond, Option, Some, None, nat_eq, List, length, set, refl, sym, ◌∙◌, ap, ap₂, subst, arith, MatchOption, nat_lt, ltb-true, ltb-false, zero-add, get_or-set_same, get_or-set_other}
 use Rattle.std.proofs.lemmas.Bool.{cond_both}
 use Rattle.ring_core.proofs.Carrier.{add_times_zero}

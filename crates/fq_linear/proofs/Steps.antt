@@ -3,7 +3,8 @@ use Rattle.std.proofs.Common.{◌≡◌, ℕ, ◌+◌, ◌-◌, ◌<◌, inl, in
 use Rattle.ring_core.specs.Ring.{RingOps, IsRing}
 use Rattle.ring_core.specs.Coeffs.{coeff, are_elems}
 use Rattle.ring_core.proofs.Carrier.{elements, add_times_zero}
-use Rattle.linear_algebra.specs.Combines.{Combines, minus, IsReduced}
+use Rattle.linear_algebra.specs.Combines.{Combines}
+use Rattle.linear_algebra.specs.steps.Slots.{minus, AreReducedSlots}
 use Rattle.linear_algebra.proofs.Sums.{same_or_other}
 use Rattle.linear_algebra.proofs.Spans.{minus_cleared}
 use Rattle.linear_algebra.proofs.Lift.{AllIn, AreIn, combines_into, combines_row, combines_add, combines_scale, combines_as, combines_zero, combines_more, combines_rows}
@@ -28,7 +29,7 @@ module _ {E : Type 0} (r : RingOps E) (h : IsRing r) where
       (λ k. h.closed.add_in _ _ (xi k) (h.closed.neg_in _ (yi k))) (λ k. h.closed.mul_in _ _ (yi j) (si j k))
       s (combines_scale r h w slots (y j) (slots j) si (yi j) (si j) (combines_row r h w slots si j l)))
 
-  pub clear_more : (w : ℕ) (lead : ℕ → Bool) (slots : ℕ → ℕ → E) (j : ℕ) (y z : ℕ → E) → AreIn r y → IsReduced r w lead slots
+  pub clear_more : (w : ℕ) (lead : ℕ → Bool) (slots : ℕ → ℕ → E) (j : ℕ) (y z : ℕ → E) → AreIn r y → AreReducedSlots r w lead slots
       → ((k : ℕ) → z k ≡ cleared r j (slots j) y k) → ((k : ℕ) → k < j → lead k ≡ true → y k ≡ r.zero)
       → (k : ℕ) → k < j + 1 → lead k ≡ true → z k ≡ r.zero
   clear_more w lead slots j y z yi g e old k l m = elim (same_or_other j k) [

@@ -4,7 +4,8 @@
 ghost use Rattle.std.specs.Prelude.{◌≡◌, ◌+◌, ◌*◌, ◌<◌, ◌≤◌, ℕ, true, length, None, IfOk};
 ghost use Rattle.ring_core.specs.Ring.{IsElem};
 ghost use Rattle.ring_core.specs.Coeffs.{coeff, are_elems};
-ghost use Rattle.linear_algebra.specs.Combines.{Combines, minus};
+ghost use Rattle.linear_algebra.specs.Combines.{Combines};
+ghost use Rattle.linear_algebra.specs.steps.Slots.{minus};
 ghost use Rattle.linear_algebra.specs.Linear.{entry, are_rows};
 ghost use Rattle.fq_linear.specs.steps.Places.{cleared};
 ghost use Rattle.fq_linear.specs.Table.{row_cells};

@@ -2,7 +2,7 @@
 -- are the relations of the rows, in echelon form; a target reduced by the others leaves its coefficients.
 use Rattle.std.proofs.Common.{◌≡◌, ℕ, zero, suc, ◌+◌, ◌-◌, ◌<◌, ◌≤◌, ◌≢◌, ◌⊎◌, inl, inr, Bool, true, cond, nat_lt, refl, sym, ◌∙◌, ap, ap₂, subst, arith, ltb-true, ltb-false, lt-ltb, le-ltb}
 use Rattle.ring_core.proofs.Carrier.{RingOn, add_zero, zero_mul, mul_zero, neg_add, neg_only, neg_zero}
-use Rattle.linear_algebra.specs.Combines.{beside}
+use Rattle.linear_algebra.specs.steps.Slots.{beside}
 use Rattle.linear_algebra.proofs.Sums.{combine, unit, total_same, total_zero, total_rest, combine_same, combine_neg, combine_scale, product_assoc, combine_unit, unit_same, unit_other, by_bool, same_or_other}
 use Rattle.linear_algebra.proofs.Spans.{Spans, minus_minus, span_into, span_minus}
 use Rattle.linear_algebra.proofs.Slots.{Reduced, expand, zero_at_leads, top_is_lead, low_part}

@@ -8,7 +8,7 @@ use Rattle.ring_core.proofs.Carrier.{RingOn, Element, elements, same_element, mu
 use Rattle.ring_core.proofs.Coefficients.{coeff_past, elem_read, elems-first_values, coeff-first_values}
 use Rattle.ring_core.proofs.Degrees.{no_zero_divisors}
 use Rattle.ring_core.proofs.FirstValues.{length-first_values}
-use Rattle.linear_algebra.specs.Combines.{beside}
+use Rattle.linear_algebra.specs.steps.Slots.{beside}
 use Rattle.linear_algebra.specs.Linear.{row_at, entry, is_row, are_rows, IsIndependent}
 use Rattle.linear_algebra.proofs.Sums.{combine, unit, total_same, total_zero, total_add, total_right, combine_same, unit_same, unit_combine, by_bool, same_or_other}
 use Rattle.linear_algebra.proofs.Spans.{minus_self}

@@ -3,7 +3,8 @@ use Rattle.std.proofs.Common.{◌≡◌, ℕ, zero, suc, ◌<◌, ◌≤◌, Boo
 use Rattle.ring_core.specs.Ring.{RingOps, IsElem, IsRing}
 use Rattle.ring_core.proofs.Carrier.{Element, same_element, elements}
 use Rattle.ring_core.proofs.Twist.{total_is}
-use Rattle.linear_algebra.specs.Combines.{combined, Combines, minus, IsReduced}
+use Rattle.linear_algebra.specs.Combines.{combined, Combines}
+use Rattle.linear_algebra.specs.steps.Slots.{minus, AreReducedSlots}
 use Rattle.linear_algebra.proofs.Sums.{combine}
 use Rattle.linear_algebra.proofs.Spans.{Spans, span_zero, span_add, span_minus, span_scale, span_row, span_into}
 use Rattle.linear_algebra.proofs.Slots.{Reduced}
@@ -42,7 +43,7 @@ module _ {E : Type 0} (r : RingOps E) (h : IsRing r) where
   }
 
   pub to_reduced : (w : ℕ) (lead : ℕ → Bool) (slots : ℕ → ℕ → E) (si : AllIn r slots)
-      → IsReduced r w lead slots → Reduced (elements h) w lead (rows_of r slots si)
+      → AreReducedSlots r w lead slots → Reduced (elements h) w lead (rows_of r slots si)
   to_reduced w lead slots si g = record {
     within = g.within;
     absent = λ j k l. same_element r _ _ (g.absent j k l);
@@ -52,7 +53,7 @@ module _ {E : Type 0} (r : RingOps E) (h : IsRing r) where
   }
 
   pub from_reduced : (w : ℕ) (lead : ℕ → Bool) (slots : ℕ → ℕ → E) (si : AllIn r slots)
-      → Reduced (elements h) w lead (rows_of r slots si) → IsReduced r w lead slots
+      → Reduced (elements h) w lead (rows_of r slots si) → AreReducedSlots r w lead slots
   from_reduced w lead slots si g = record {
     within = g.within;
     absent = λ j k l. ap (λ a. a.0) (g.absent j k l);

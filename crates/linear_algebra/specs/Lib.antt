@@ -1,2 +1,3 @@
 pub mod Combines
 pub mod Linear
+pub mod steps

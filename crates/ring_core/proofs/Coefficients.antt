@@ -10,6 +10,13 @@ module _ {E : Type 0} (r : RingOps E) where
   pub coeff_past : (u : List E) (i : ℕ) → length u ≤ i → coeff r u i ≡ r.zero
   coeff_past u i past = get_or_past u i r.zero past
 
+  -- a zero at the end
+  pub coeff_push_zero : (u : List E) (x : E) → x ≡ r.zero → (i : ℕ) → coeff r (u ++ x ∷ []) i ≡ coeff r u i
+  coeff_push_zero [] x e zero = e
+  coeff_push_zero [] x e (suc i) = refl
+  coeff_push_zero (y ∷ ys) x e zero = refl
+  coeff_push_zero (y ∷ ys) x e (suc i) = coeff_push_zero ys x e i
+
   pub elem_read : (u : List E) → IsElem r r.zero → are_elems r u ≡ true → (i : ℕ) → IsElem r (coeff r u i)
   elem_read [] z e i = z
   elem_read (x ∷ xs) z e zero = (and_parts _ _ e).0

@@ -5,11 +5,10 @@ use Rattle.ring_core.specs.Ring.{RingOps, IsElem, IsRing, SameDecides}
 use Rattle.ring_core.specs.Field.{IsField, FrobOps, IsFrobField}
 use Rattle.ring_core.specs.Coeffs.{coeff, are_elems, is_trimmed, is_canonical}
 use Rattle.ring_core.specs.Twisted.{product_at, list_mul}
-use Rattle.ring_core.proofs.Carrier.{elements, zero_mul, mul_zero}
+use Rattle.ring_core.proofs.Carrier.{elements, mul_zero}
 use Rattle.ring_core.proofs.Coefficients.{coeff_past, elem_read}
-use Rattle.ring_core.proofs.Twist.{IsTwist, frob_of_zero, twist_of_zero, sum_of_zeros}
-use Rattle.ring_core.proofs.ListRing.{coeff-mul, mul_in}
-use Rattle.ring_core.proofs.Monomial.{sum_single}
+use Rattle.ring_core.proofs.Twist.{IsTwist, frob_of_zero}
+use Rattle.ring_core.proofs.ListRing.{vanishes_past, product_zero, product_single, coeff-mul, mul_in}
 
 -- The top coefficient of a polynomial isn't zero.
 pub top_nonzero : {E : Type 0} (r : RingOps E) → IsElem r r.zero → SameDecides r → (u : List E) → is_trimmed r u ≡ true → u ≢ [] → coeff r u (length u - 1) ≢ r.zero
@@ -56,42 +55,15 @@ pub record HasNoDivisors {E : Type 0} (r : RingOps E) (frob : E → ℕ → E) :
   pub image : (c : E) (i : ℕ) → IsElem r c → c ≢ r.zero → frob c i ≢ r.zero
 
 module _ {E : Type 0} (r : RingOps E) (h : IsRing r) (frob : E → ℕ → E) (t : IsTwist r frob) where
-  -- a term of the coefficient at the sum of the degrees m and n, but that at m
-  other_term : (a b : List E) → are_elems r a ≡ true → are_elems r b ≡ true → (m n i : ℕ) → length a ≡ m + 1 → length b ≡ n + 1 → i ≢ m → r.mul (coeff r a i) (frob (coeff r b (m + n - i)) i) ≡ r.zero
-  other_term a b p q m n i la lb apart =
-      let z = h.closed.zero_in in
-      ⊎_elim
-      (λ (low : i < m).
-      ap (r.mul (coeff r a i)) (ap (λ c. frob c i) (coeff_past r b (m + n - i) (omega arith)) ∙ twist_of_zero r h frob t i)
-      ∙ ap (λ x. x.0) (mul_zero (elements h) (coeff r a i, elem_read r a z p i)))
-      (λ (high : m ≤ i).
-      ap (λ c. r.mul c (frob (coeff r b (m + n - i)) i)) (coeff_past r a i (omega arith))
-      ∙ ap (λ x. x.0) (zero_mul (elements h) (frob (coeff r b (m + n - i)) i, t.twist_in _ i (elem_read r b z q (m + n - i)))))
-      (cases_lt i m)
-
   -- the top coefficient of a product
   pub product_top : (a b : List E) → are_elems r a ≡ true → are_elems r b ≡ true → (m n : ℕ) → length a ≡ m + 1 → length b ≡ n + 1 → product_at r frob a b (m + n) ≡ r.mul (coeff r a m) (frob (coeff r b n) m)
   product_top a b p q m n la lb =
-      let z = h.closed.zero_in in
       let place : m + n - m ≡ n = omega arith in
-      sum_single r h (m + n + 1) _ m (omega arith)
-      (h.closed.mul_in _ _ (elem_read r a z p m) (t.twist_in _ m (elem_read r b z q (m + n - m))))
-      (λ i l apart. other_term a b p q m n i la lb apart)
+      product_single r h frob t a b p q (m + n) m (omega arith) (λ i l apart. vanishes_past r h frob t a b p q (m + n) i (λ low. omega arith))
       ∙ ap (λ j. r.mul (coeff r a m) (frob (coeff r b j) m)) place
 
   past_top : (a b : List E) → are_elems r a ≡ true → are_elems r b ≡ true → (m n k : ℕ) → length a ≡ m + 1 → length b ≡ n + 1 → m + n < k → product_at r frob a b k ≡ r.zero
-  past_top a b p q m n k la lb past =
-      let z = h.closed.zero_in in
-      sum_of_zeros r h (k + 1) _
-      (λ i l.
-      ⊎_elim
-      (λ (low : i < m + 1).
-      ap (r.mul (coeff r a i)) (ap (λ c. frob c i) (coeff_past r b (k - i) (omega arith)) ∙ twist_of_zero r h frob t i)
-      ∙ ap (λ x. x.0) (mul_zero (elements h) (coeff r a i, elem_read r a z p i)))
-      (λ (high : m + 1 ≤ i).
-      ap (λ c. r.mul c (frob (coeff r b (k - i)) i)) (coeff_past r a i (omega arith))
-      ∙ ap (λ x. x.0) (zero_mul (elements h) (frob (coeff r b (k - i)) i, t.twist_in _ i (elem_read r b z q (k - i)))))
-      (cases_lt i (m + 1)))
+  past_top a b p q m n k la lb past = product_zero r h frob t a b p q k (λ i l. vanishes_past r h frob t a b p q k i (λ low. omega arith))
 
   length_of_product : HasNoDivisors r frob → (a b : List E) → is_canonical r a ≡ true → is_canonical r b ≡ true → a ≢ [] → b ≢ [] → (m n : ℕ) → length a ≡ m + 1 → length b ≡ n + 1 → length (list_mul r frob a b) ≡ m + n + 1
   length_of_product none a b p q na nb m n la lb =

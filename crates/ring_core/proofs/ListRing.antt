@@ -1,5 +1,5 @@
 -- The polynomials over a ring, with any twist, are a ring: their values are the sequences of their coefficients.
-use Rattle.std.proofs.Common.{◌≡◌, ◌≢◌, ℕ, zero, suc, ◌+◌, ◌-◌, ◌≤◌, max, true, not, Option, List, [], ◌∷◌, length, refl, sym, ◌∙◌, ap, ap₂, ⊎_elim, arith}
+use Rattle.std.proofs.Common.{◌≡◌, ◌≢◌, ℕ, zero, suc, ◌+◌, ◌-◌, ◌<◌, ◌≤◌, ◌⊎◌, inl, inr, max, true, not, Option, List, [], ◌∷◌, length, refl, sym, ◌∙◌, ap, ap₂, ⊎_elim, arith}
 use Rattle.std.proofs.lemmas.Bool.{and_parts, and_from, cases_lt, false_from_ne_true}
 use mathlib.Core.Path.{fun_ext}
 use Rattle.ring_core.specs.Ring.{RingOps, IsElem, IsClosed, SameDecides, IsRing, IsCommutative}
@@ -11,7 +11,7 @@ use Rattle.ring_core.proofs.Series.{conv, unit, series, conv_comm}
 use Rattle.ring_core.proofs.Values.{HasValues, ring_from_values, comm_from_values}
 use Rattle.ring_core.proofs.Coefficients.{coeff_past, elem_read, canonical-list_of, coeff-list_of, length-trim, same_coeffs, same_lists-refl, same_lists-eq}
 use Rattle.ring_core.proofs.FirstValues.{length-first_values}
-use Rattle.ring_core.proofs.Twist.{IsTwist, no_twist, frob_twist, sum_of_zeros, twist_of_zero, twist, twist_endo, conv_is_sum}
+use Rattle.ring_core.proofs.Twist.{IsTwist, no_twist, frob_twist, sum_of_zeros, sum_single, twist_of_zero, twist, twist_endo, conv_is_sum}
 
 module _ {E : Type 0} (r : RingOps E) where
   pub length-list_of : (n : ℕ) (f : ℕ → E) → length (list_of r n f) ≤ n
@@ -59,19 +59,36 @@ module _ {E : Type 0} (r : RingOps E) (h : IsRing r) (frob : E → ℕ → E) (t
   product_in a b p q k =
       rw (product_is_conv a b p q k) (conv (elements h) (twist r h frob t 1) k (value r h a p) (value r h b q)).1
 
-  -- a term of a product past the end of either factor
-  term_past : (a b : List E) → are_elems r a ≡ true → are_elems r b ≡ true → (k i : ℕ) → length a + length b ≤ k → r.mul (coeff r a i) (frob (coeff r b (k - i)) i) ≡ r.zero
-  term_past a b p q k i past =
-      ⊎_elim
-      (λ l. let far : length b ≤ k - i = omega arith in
-      ap (r.mul (coeff r a i)) (ap (λ c. frob c i) (coeff_past r b (k - i) far) ∙ twist_of_zero r h frob t i)
-      ∙ ap (λ x. x.0) (mul_zero (elements h) (value r h a p i)))
-      (λ l. ap (λ c. r.mul c (frob (coeff r b (k - i)) i)) (coeff_past r a i l)
-      ∙ ap (λ x. x.0) (zero_mul (elements h) (twist r h frob t i (value r h b q (k - i)))))
-      (cases_lt i (length a))
+  module _ (a b : List E) (p : are_elems r a ≡ true) (q : are_elems r b ≡ true) (k : ℕ) where
+    -- the term at i of the coefficient at k has a factor that is zero
+    abbrev pub Vanishes : ℕ → Type 0
+    Vanishes i = (coeff r a i ≡ r.zero) ⊎ (coeff r b (k - i) ≡ r.zero)
+
+    term_zero : (i : ℕ) → Vanishes i → r.mul (coeff r a i) (frob (coeff r b (k - i)) i) ≡ r.zero
+    term_zero i o = elim o [
+      | inl e ↦ ap (λ c. r.mul c (frob (coeff r b (k - i)) i)) e ∙ ap (λ x. x.0) (zero_mul (elements h) (twist r h frob t i (value r h b q (k - i))))
+      | inr e ↦ ap (r.mul (coeff r a i)) (ap (λ c. frob c i) e ∙ twist_of_zero r h frob t i) ∙ ap (λ x. x.0) (mul_zero (elements h) (value r h a p i))
+    ]
+
+    -- as where the one factor ends before the other begins
+    pub vanishes_past : (i : ℕ) → (i < length a → length b ≤ k - i) → Vanishes i
+    vanishes_past i far =
+        ⊎_elim
+        (λ (low : i < length a). inr (coeff_past r b (k - i) (far low)))
+        (λ (high : length a ≤ i). inl (coeff_past r a i high))
+        (cases_lt i (length a))
+
+    pub product_zero : ((i : ℕ) → i ≤ k → Vanishes i) → product_at r frob a b k ≡ r.zero
+    product_zero z = sum_of_zeros r h (k + 1) _ (λ i l. term_zero i (z i (omega arith)))
+
+    -- a coefficient with one term that may differ from zero
+    pub product_single : (m : ℕ) → m ≤ k → ((i : ℕ) → i ≤ k → i ≢ m → Vanishes i) → product_at r frob a b k ≡ r.mul (coeff r a m) (frob (coeff r b (k - m)) m)
+    product_single m l z =
+        sum_single r h (k + 1) _ m (omega arith) (h.closed.mul_in _ _ (value r h a p m).1 (twist r h frob t m (value r h b q (k - m))).1)
+        (λ i b apart. term_zero i (z i (omega arith) apart))
 
   pub product_past : (a b : List E) → are_elems r a ≡ true → are_elems r b ≡ true → (k : ℕ) → length a + length b ≤ k → product_at r frob a b k ≡ r.zero
-  product_past a b p q k past = sum_of_zeros r h (k + 1) _ (λ i l. term_past a b p q k i past)
+  product_past a b p q k past = product_zero a b p q k (λ i l. vanishes_past a b p q k i (λ low. omega arith))
 
   pub mul_in : (a b : List E) → are_elems r a ≡ true → are_elems r b ≡ true → is_canonical r (list_mul r frob a b) ≡ true
   mul_in a b p q = canonical-list_of r (length a + length b) _ (λ i l. product_in a b p q i)

@@ -1,34 +1,17 @@
 -- The products of a polynomial with one term, on either side: tau^k raises each coefficient, and moves
 -- it up by k places.
-use Rattle.std.proofs.Common.{◌≡◌, ◌≢◌, ℕ, zero, suc, ◌+◌, ◌-◌, ◌<◌, ◌≤◌, true, false, List, [], length, nat_eq, nat_lt, if◌then◌else◌, eq-eqb, ne_eqb, refl, sym, ◌∙◌, ap, ap₂, ⊎_elim, arith}
-use Rattle.std.proofs.lemmas.Bool.{and_parts, lt-ltb, le-ltb, cases_eq, cases_lt, cond-true, cond-false, cond_both}
+use Rattle.std.proofs.Common.{◌≡◌, ◌≢◌, ℕ, ◌+◌, ◌-◌, ◌<◌, ◌≤◌, inl, inr, true, false, List, [], length, nat_eq, nat_lt, if◌then◌else◌, eq-eqb, ne_eqb, refl, sym, ◌∙◌, ap, ⊎_elim, arith}
+use Rattle.std.proofs.lemmas.Bool.{and_parts, lt-ltb, le-ltb, cases_lt, cond-true, cond-false, cond_both}
 use Rattle.ring_core.specs.Ring.{RingOps, IsElem, IsRing}
-use Rattle.ring_core.specs.Coeffs.{coeff, sum_below, are_elems, is_canonical, first_values, list_of}
+use Rattle.ring_core.specs.Coeffs.{coeff, are_elems, is_canonical, first_values, list_of}
 use Rattle.ring_core.specs.Twisted.{product_at, list_mul}
 use Rattle.ring_core.specs.Monomial.{monomial, constant, tau_power}
-use Rattle.ring_core.proofs.Carrier.{elements, add_zero, zero_mul, mul_zero}
+use Rattle.ring_core.proofs.Carrier.{elements, mul_zero}
 use Rattle.ring_core.proofs.Coefficients.{coeff_past, elem_read, canonical-list_of, coeff-list_of, same_coeffs, trimmed-trim}
-use Rattle.ring_core.proofs.Twist.{IsTwist, sum_of_zeros, twist_of_zero}
-use Rattle.ring_core.proofs.ListRing.{product_in, coeff-mul, mul_in}
+use Rattle.ring_core.proofs.Twist.{IsTwist, twist_of_zero}
+use Rattle.ring_core.proofs.ListRing.{product_in, product_zero, product_single, coeff-mul, mul_in}
 
 module _ {E : Type 0} (r : RingOps E) (h : IsRing r) where
-  last_single : (n : ℕ) (g : ℕ → E) (k : ℕ) → k ≡ n → IsElem r (g k) → ((i : ℕ) → i < n → i ≢ k → g i ≡ r.zero) → r.add (sum_below r n g) (g n) ≡ g k
-  last_single n g k here p e =
-      ap₂ r.add (sum_of_zeros r h n g (λ i (m : i < n). let apart : i ≢ k = omega arith in e i m apart)) (ap g (sym here))
-      ∙ h.zero_add (g k) p
-
-  -- a sum with one term that may differ from zero
-  pub sum_single : (n : ℕ) (g : ℕ → E) (k : ℕ) → k < n → IsElem r (g k) → ((i : ℕ) → i < n → i ≢ k → g i ≡ r.zero) → sum_below r n g ≡ g k
-  sum_single zero g k l p e = absurd (omega arith)
-  sum_single (suc n) g k l p e =
-      ⊎_elim
-      (λ (here : k ≡ n). last_single n g k here p (λ i (m : i < n). e i (omega arith)))
-      (λ (other : k ≢ n).
-      let apart : n ≢ k = omega arith in
-      ap₂ r.add (sum_single n g k (omega arith) p (λ i (m : i < n). e i (omega arith))) (e n (omega arith) apart)
-      ∙ ap (λ x. x.0) (add_zero (elements h) (g k, p)))
-      (cases_eq k n)
-
   pub monomial_in : (c : E) (k : ℕ) → IsElem r c → is_canonical r (monomial r c k) ≡ true
   monomial_in c k p =
       canonical-list_of r (k + 1) _ (λ i l. cond_both (nat_eq i k) c r.zero (IsElem r) (λ s. p) (λ s. h.closed.zero_in))
@@ -47,56 +30,32 @@ module _ {E : Type 0} (r : RingOps E) (h : IsRing r) where
   coeff-monomial_other c k i p apart = coeff-monomial c k p i ∙ cond-false _ c r.zero (ne_eqb i k apart)
 
 module _ {E : Type 0} (r : RingOps E) (h : IsRing r) (frob : E → ℕ → E) (t : IsTwist r frob) where
-  zero_term : (x : E) (i : ℕ) → IsElem r x → r.mul x (frob r.zero i) ≡ r.zero
-  zero_term x i p =
-      ap (r.mul x) (twist_of_zero r h frob t i) ∙ ap (λ y. y.0) (mul_zero (elements h) (x, p))
-
-  no_term : (x : E) → IsElem r x → r.mul r.zero x ≡ r.zero
-  no_term x p = ap (λ y. y.0) (zero_mul (elements h) (x, p))
+  monomial_elems : (c : E) (k : ℕ) → IsElem r c → are_elems r (monomial r c k) ≡ true
+  monomial_elems c k p = (and_parts _ _ (monomial_in r h c k p)).0
 
   -- the coefficient at j of c tau^k u
   pub monomial_product : (c : E) (k : ℕ) (u : List E) → IsElem r c → are_elems r u ≡ true → (j : ℕ) → k ≤ j → product_at r frob (monomial r c k) u j ≡ r.mul c (frob (coeff r u (j - k)) k)
   monomial_product c k u p e j l =
-      let read = elem_read r u h.closed.zero_in e in
-      let same = coeff-monomial_same r h c k p in
-      sum_single r h (j + 1) _ k (omega arith)
-      (h.closed.mul_in _ _ (ap r.is_elem same ∙ p) (t.twist_in _ k (read (j - k))))
-      (λ i m apart.
-      ap (λ x. r.mul x (frob (coeff r u (j - i)) i)) (coeff-monomial_other r h c k i p apart)
-      ∙ no_term _ (t.twist_in _ i (read (j - i))))
-      ∙ ap (λ x. r.mul x (frob (coeff r u (j - k)) k)) same
+      product_single r h frob t (monomial r c k) u (monomial_elems c k p) e j k l (λ i m apart. inl (coeff-monomial_other r h c k i p apart))
+      ∙ ap (λ x. r.mul x (frob (coeff r u (j - k)) k)) (coeff-monomial_same r h c k p)
 
   pub monomial_product_below : (c : E) (k : ℕ) (u : List E) → IsElem r c → are_elems r u ≡ true → (j : ℕ) → j < k → product_at r frob (monomial r c k) u j ≡ r.zero
   monomial_product_below c k u p e j l =
-      let read = elem_read r u h.closed.zero_in e in
-      sum_of_zeros r h (j + 1) _
-      (λ i (m : i < j + 1).
-      let apart : i ≢ k = omega arith in
-      ap (λ x. r.mul x (frob (coeff r u (j - i)) i)) (coeff-monomial_other r h c k i p apart)
-      ∙ no_term _ (t.twist_in _ i (read (j - i))))
+      product_zero r h frob t (monomial r c k) u (monomial_elems c k p) e j
+      (λ i (m : i ≤ j). let apart : i ≢ k = omega arith in inl (coeff-monomial_other r h c k i p apart))
 
   -- the coefficient at j of u c tau^k
   pub product_monomial : (u : List E) (c : E) (k : ℕ) → IsElem r c → are_elems r u ≡ true → (j : ℕ) → k ≤ j → product_at r frob u (monomial r c k) j ≡ r.mul (coeff r u (j - k)) (frob c (j - k))
   product_monomial u c k p e j l =
-      let read = elem_read r u h.closed.zero_in e in
       let place : j - (j - k) ≡ k = omega arith in
-      let same = ap (coeff r (monomial r c k)) place ∙ coeff-monomial_same r h c k p in
-      sum_single r h (j + 1) _ (j - k) (omega arith)
-      (h.closed.mul_in _ _ (read (j - k)) (t.twist_in _ (j - k) (ap r.is_elem same ∙ p)))
-      (λ i (m : i < j + 1) (other : i ≢ j - k).
-      let apart : j - i ≢ k = omega arith in
-      ap (λ x. r.mul (coeff r u i) (frob x i)) (coeff-monomial_other r h c k (j - i) p apart)
-      ∙ zero_term _ i (read i))
-      ∙ ap (λ x. r.mul (coeff r u (j - k)) (frob x (j - k))) same
+      product_single r h frob t u (monomial r c k) e (monomial_elems c k p) j (j - k) (omega arith)
+      (λ i (m : i ≤ j) (other : i ≢ j - k). let apart : j - i ≢ k = omega arith in inr (coeff-monomial_other r h c k (j - i) p apart))
+      ∙ ap (λ x. r.mul (coeff r u (j - k)) (frob x (j - k))) (ap (coeff r (monomial r c k)) place ∙ coeff-monomial_same r h c k p)
 
   pub product_monomial_below : (u : List E) (c : E) (k : ℕ) → IsElem r c → are_elems r u ≡ true → (j : ℕ) → j < k → product_at r frob u (monomial r c k) j ≡ r.zero
   product_monomial_below u c k p e j l =
-      let read = elem_read r u h.closed.zero_in e in
-      sum_of_zeros r h (j + 1) _
-      (λ i (m : i < j + 1).
-      let apart : j - i ≢ k = omega arith in
-      ap (λ x. r.mul (coeff r u i) (frob x i)) (coeff-monomial_other r h c k (j - i) p apart)
-      ∙ zero_term _ i (read i))
+      product_zero r h frob t u (monomial r c k) e (monomial_elems c k p) j
+      (λ i (m : i ≤ j). let apart : j - i ≢ k = omega arith in inr (coeff-monomial_other r h c k (j - i) p apart))
 
   -- a product, told by its coefficients
   pub product_by_coeffs : (a b : List E) → are_elems r a ≡ true → are_elems r b ≡ true → (n : ℕ) (f : ℕ → E) → ((j : ℕ) → n ≤ j → f j ≡ r.zero) → ((j : ℕ) → f j ≡ product_at r frob a b j) → list_of r n f ≡ list_mul r frob a b
@@ -116,13 +75,13 @@ module _ {E : Type 0} (r : RingOps E) (h : IsRing r) (frob : E → ℕ → E) (t
   pub mul_empty : (a : List E) → are_elems r a ≡ true → list_mul r frob a [] ≡ []
   mul_empty a p =
       sym (product_by_coeffs a [] p refl 0 (λ j. r.zero) (λ j l. refl)
-      (λ j. sym (sum_of_zeros r h (j + 1) _ (λ i l. zero_term (coeff r a i) i (elem_read r a h.closed.zero_in p i)))))
+      (λ j. sym (product_zero r h frob t a [] p refl j (λ i l. inr refl))))
 
   -- c u goes by places
   pub constant_mul : (c : E) (u : List E) → IsElem r c → are_elems r u ≡ true → list_of r (length u) (λ i. r.mul c (coeff r u i)) ≡ list_mul r frob (constant r c) u
   constant_mul c u p e =
       let read = elem_read r u h.closed.zero_in e in
-      product_by_coeffs (constant r c) u (and_parts _ _ (monomial_in r h c 0 p)).0 e (length u) _
+      product_by_coeffs (constant r c) u (monomial_elems c 0 p) e (length u) _
       (λ j l. ap (r.mul c) (coeff_past r u j l) ∙ ap (λ y. y.0) (mul_zero (elements h) (c, p)))
       (λ j.
       let place : j - 0 ≡ j = omega arith in
@@ -133,7 +92,7 @@ module _ {E : Type 0} (r : RingOps E) (h : IsRing r) (frob : E → ℕ → E) (t
   tau_mul k u e =
       let one = h.closed.one_in in
       let read = elem_read r u h.closed.zero_in e in
-      product_by_coeffs (tau_power r k) u (and_parts _ _ (monomial_in r h r.one k one)).0 e (k + length u) _
+      product_by_coeffs (tau_power r k) u (monomial_elems r.one k one) e (k + length u) _
       (λ j (l : k + length u ≤ j).
       let high : nat_lt j k ≡ false = le-ltb j k (omega arith) in
       cond-false _ _ _ high ∙ ap (λ c. frob c k) (coeff_past r u (j - k) (omega arith)) ∙ twist_of_zero r h frob t k)

@@ -46,28 +46,31 @@ module _ {E : Type 0} (r : RingOps E) (h : IsRing r) where
       ∙ sym (coeff-add r h (trim r before) p tb ep n ∙ ap (λ x. r.add x (coeff r p n)) (coeff-trim r z h.equal before eb n)))
 
   module _ (frob : E → ℕ → E) (t : IsTwist r frob) where
+    -- a product with zeros below k was added
+    product_added : (out before a b : List E) (k : ℕ) → are_elems r out ≡ true → are_elems r before ≡ true → are_elems r a ≡ true → are_elems r b ≡ true
+        → ((n : ℕ) → n < k → coeff r out n ≡ coeff r before n) → ((n : ℕ) → n < k → product_at r frob a b n ≡ r.zero)
+        → ((n : ℕ) → k ≤ n → coeff r out n ≡ r.add (coeff r before n) (product_at r frob a b n))
+        → trim r out ≡ list_add r (trim r before) (list_mul r frob a b)
+    product_added out before a b k eo eb ea er below zeros added =
+        trim_sum out before (list_mul r frob a b) eo eb (and_parts _ _ (mul_in r h frob t a b ea er)).0
+        (λ n.
+        ⊎_elim
+        (λ (low : n < k). below n low ∙ sym (add_nothing (coeff r before n) (product_at r frob a b n) (elem_read r before h.closed.zero_in eb n) (zeros n low)))
+        (added n)
+        (cases_lt n k)
+        ∙ ap (r.add (coeff r before n)) (sym (coeff-mul r h frob t a b ea er n)))
+
     -- c tau^k row was added
     pub term_added : (out before row : List E) (c : E) (k : ℕ) → are_elems r out ≡ true → are_elems r before ≡ true → are_elems r row ≡ true → IsElem r c
         → ((n : ℕ) → n < k → coeff r out n ≡ coeff r before n)
         → ((j : ℕ) → coeff r out (k + j) ≡ r.add (coeff r before (k + j)) (r.mul c (frob (coeff r row j) k)))
         → trim r out ≡ list_add r (trim r before) (list_mul r frob (monomial r c k) row)
     term_added out before row c k eo eb er p below added =
-        let z = h.closed.zero_in in
-        let term = (and_parts _ _ (monomial_in r h c k p)).0 in
-        let product = (and_parts _ _ (mul_in r h frob t (monomial r c k) row term er)).0 in
-        let Holds : ℕ → Type 0 = λ n. coeff r out n ≡ r.add (coeff r before n) (product_at r frob (monomial r c k) row n) in
-        trim_sum out before (list_mul r frob (monomial r c k) row) eo eb product
-        (λ n.
-        ⊎_elim
-        (λ (low : n < k).
-        below n low
-        ∙ sym (add_nothing (coeff r before n) (product_at r frob (monomial r c k) row n) (elem_read r before z eb n) (monomial_product_below r h frob t c k row p er n low)))
-        (λ (high : k ≤ n).
+        product_added out before (monomial r c k) row k eo eb (and_parts _ _ (monomial_in r h c k p)).0 er below (monomial_product_below r h frob t c k row p er)
+        (λ n high.
         let place : k + (n - k) ≡ n = omega arith in
         subst (λ m. coeff r out m ≡ r.add (coeff r before m) (r.mul c (frob (coeff r row (n - k)) k))) place (added (n - k))
         ∙ ap (r.add (coeff r before n)) (sym (monomial_product r h frob t c k row p er n high)))
-        (cases_lt n k)
-        ∙ ap (r.add (coeff r before n)) (sym (coeff-mul r h frob t (monomial r c k) row term er n)))
 
     -- row c tau^k was added
     pub term_added_right : (out before row : List E) (c : E) (k : ℕ) → are_elems r out ≡ true → are_elems r before ≡ true → are_elems r row ≡ true → IsElem r c
@@ -75,18 +78,8 @@ module _ {E : Type 0} (r : RingOps E) (h : IsRing r) where
         → ((j : ℕ) → coeff r out (k + j) ≡ r.add (coeff r before (k + j)) (r.mul (coeff r row j) (frob c j)))
         → trim r out ≡ list_add r (trim r before) (list_mul r frob row (monomial r c k))
     term_added_right out before row c k eo eb er p below added =
-        let z = h.closed.zero_in in
-        let term = (and_parts _ _ (monomial_in r h c k p)).0 in
-        let product = (and_parts _ _ (mul_in r h frob t row (monomial r c k) er term)).0 in
-        trim_sum out before (list_mul r frob row (monomial r c k)) eo eb product
-        (λ n.
-        ⊎_elim
-        (λ (low : n < k).
-        below n low
-        ∙ sym (add_nothing (coeff r before n) (product_at r frob row (monomial r c k) n) (elem_read r before z eb n) (product_monomial_below r h frob t row c k p er n low)))
-        (λ (high : k ≤ n).
+        product_added out before row (monomial r c k) k eo eb er (and_parts _ _ (monomial_in r h c k p)).0 below (product_monomial_below r h frob t row c k p er)
+        (λ n high.
         let place : k + (n - k) ≡ n = omega arith in
         subst (λ m. coeff r out m ≡ r.add (coeff r before m) (r.mul (coeff r row (n - k)) (frob c (n - k)))) place (added (n - k))
         ∙ ap (r.add (coeff r before n)) (sym (product_monomial r h frob t row c k p er n high)))
-        (cases_lt n k)
-        ∙ ap (r.add (coeff r before n)) (sym (coeff-mul r h frob t row (monomial r c k) er term n)))

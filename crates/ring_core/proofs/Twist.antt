@@ -1,12 +1,13 @@
 -- What the product with a twist needs of the twist, and the coefficients of such a product as sums.
 use native.Mathlib.Nat.{div-add-mod}
-use Rattle.std.proofs.Common.{◌≡◌, ◌≢◌, ℕ, zero, suc, ◌+◌, ◌-◌, ◌*◌, ◌/◌, ◌%◌, ◌<◌, Option, None, Some, MatchOption, refl, sym, ◌∙◌, ap, ap₂, arith, mul-zero, mul-suc}
+use Rattle.std.proofs.Common.{◌≡◌, ◌≢◌, ℕ, zero, suc, ◌+◌, ◌-◌, ◌*◌, ◌/◌, ◌%◌, ◌<◌, Option, None, Some, MatchOption, ⊎_elim, refl, sym, ◌∙◌, ap, ap₂, arith, mul-zero, mul-suc}
 use mathlib.Core.Path.{fun_ext}
+use Rattle.std.proofs.lemmas.Bool.{cases_eq}
 use Rattle.ring_core.specs.Ring.{RingOps, IsElem, IsRing}
 use Rattle.ring_core.specs.Field.{IsField, FrobOps, IsFrobField}
 use Rattle.ring_core.specs.Coeffs.{sum_below}
 pub use Rattle.ring_core.specs.Twisted.{IsTwist}
-use Rattle.ring_core.proofs.Carrier.{Element, same_element, elements, zero_only}
+use Rattle.ring_core.proofs.Carrier.{Element, same_element, elements, zero_only, add_zero}
 use Rattle.ring_core.proofs.Series.{IsEndo, conv, total, total_first}
 
 -- The trivial twist.
@@ -42,6 +43,19 @@ module _ {E : Type 0} (r : RingOps E) (h : IsRing r) where
   sum_of_zeros (suc n) g e =
       ap₂ r.add (sum_of_zeros n g (λ i (l : i < n). e i (omega arith))) (e n (omega arith))
       ∙ h.zero_add r.zero h.closed.zero_in
+
+  -- a sum with one term that may differ from zero
+  pub sum_single : (n : ℕ) (g : ℕ → E) (k : ℕ) → k < n → IsElem r (g k) → ((i : ℕ) → i < n → i ≢ k → g i ≡ r.zero) → sum_below r n g ≡ g k
+  sum_single zero g k l p e = absurd (omega arith)
+  sum_single (suc n) g k l p e =
+      ⊎_elim
+      (λ (here : k ≡ n).
+      ap₂ r.add (sum_of_zeros n g (λ i (m : i < n). let apart : i ≢ k = omega arith in e i (omega arith) apart)) (ap g (sym here)) ∙ h.zero_add (g k) p)
+      (λ (other : k ≢ n).
+      let apart : n ≢ k = omega arith in
+      ap₂ r.add (sum_single n g k (omega arith) p (λ i (m : i < n). e i (omega arith))) (e n (omega arith) apart)
+      ∙ ap (λ x. x.0) (add_zero (elements h) (g k, p)))
+      (cases_eq k n)
 
   pub sum_same : (n : ℕ) (g k : ℕ → E) → ((i : ℕ) → i < n → g i ≡ k i) → sum_below r n g ≡ sum_below r n k
   sum_same zero g k e = refl

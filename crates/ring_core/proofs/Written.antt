@@ -7,9 +7,6 @@ use Rattle.ring_core.specs.Written.{IsWritten}
 use Rattle.ring_core.proofs.Coefficients.{coeff_past, elem_read}
 
 module _ {E : Type 0} (d : E) where
-  pub written_none : (at : ℕ) (f : ℕ → E) (u : List E) → IsWritten d at 0 f u u
-  written_none at f u = record { inside = λ k l. absurd (omega arith); outside = λ i o. refl }
-
   -- one more place is written
   pub written_more : (at n p : ℕ) (f : ℕ → E) (before u : List E) (x : E) → IsWritten d at n f before u → p ≡ at + n → p < length u → x ≡ f n
       → IsWritten d at (n + 1) f before (set u p x)
@@ -31,18 +28,6 @@ module _ {E : Type 0} (d : E) where
   -- the place that is written next is as it was
   pub next_place : (at n : ℕ) (f : ℕ → E) (before u : List E) → IsWritten d at n f before u → get_or u (at + n) d ≡ get_or before (at + n) d
   next_place at n f before u w = w.outside (at + n) (inr (omega arith))
-
-  -- a fact told of fewer places, where the others stay as they are
-  pub written_wider : (at m n : ℕ) (f g : ℕ → E) (before u : List E) → m ≤ n → IsWritten d at m f before u
-      → ((k : ℕ) → k < m → f k ≡ g k) → ((k : ℕ) → m ≤ k → k < n → get_or before (at + k) d ≡ g k) → IsWritten d at n g before u
-  written_wider at m n f g before u l w e z = record {
-    inside = λ k b.
-        ⊎_elim
-        (λ (c : k < m). w.inside k c ∙ e k c)
-        (λ (c : m ≤ k). w.outside (at + k) (inr (omega arith)) ∙ z k c b)
-        (cases_lt k m);
-    outside = λ i o. w.outside i (elim o [ inl a ↦ inl a | inr a ↦ inr (omega arith) ]);
-  }
 
 module _ {E : Type 0} (r : RingOps E) where
   -- a list that is written from its start to its end

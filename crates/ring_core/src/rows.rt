@@ -1,7 +1,7 @@
 //! Lists of elements of a field that are written in place, as a product made row by row does.
-ghost use Rattle.std.specs.Prelude.{◌≡◌, ℕ, ◌+◌, ◌<◌, ◌≤◌, ◌↔◌, IfOk, IsTrue, length, true};
+ghost use Rattle.std.specs.Prelude.{◌≡◌, ℕ, ◌+◌, ◌<◌, ◌≤◌, ◌↔◌, IfOk, IsTrue, OnOk, length, true};
 ghost use Rattle.ring_core.specs.Ring.{IsElem};
-ghost use Rattle.ring_core.specs.Coeffs.{coeff, are_elems, first_values};
+ghost use Rattle.ring_core.specs.Coeffs.{coeff, trim, are_elems, first_values};
 
 use super::field::{E, Field};
 use super::lists::coeff_at;
@@ -19,6 +19,21 @@ pub fn zero_list<K: Field>(alloc: Global, field: &K, n: usize) -> Result<Vec<E<K
         zeros.push(zero)?;
     }
     Ok(zeros)
+}
+
+/// Puts zeros at the end of the list until it has `n` members. Where memory is refused, some of them may stand there.
+pub fn extend<K: Field>(field: &K, list: &mut Vec<E<K>>, n: usize) -> Result<(), NoMemory>
+    requires { are_elems (K.ops field.now) list.old.items ≡ true }
+    ensures elems { are_elems (K.ops field.now) list.new.items ≡ true }
+    ensures room { OnOk result (n ≤ length list.new.items) }
+    ensures coeffs { let r = K.ops field.now in (k : ℕ) → coeff r list.new.items k ≡ coeff r list.old.items k }
+    ensures trimmed { let r = K.ops field.now in trim r list.new.items ≡ trim r list.old.items }
+{
+    for i in list.len()..n {
+        let zero = field.zero();
+        list.push(zero)?;
+    }
+    Ok(())
 }
 
 /// Adds `c` times `row` to `out`, from the place `i` on: `c row[k]` to `out[i + k]`. Makes no product

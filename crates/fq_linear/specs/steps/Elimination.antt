@@ -2,7 +2,8 @@
 use Rattle.std.specs.Prelude.{◌≡◌, ℕ, ◌+◌, ◌*◌, ◌<◌, ◌≤◌, Bool, true, Option, Some, None, is_some, false, List, [], ◌∷◌, length, slice_range, slice_index_or}
 use Rattle.ring_core.specs.Ring.{RingOps, IsElem}
 use Rattle.ring_core.specs.Coeffs.{coeff, are_elems}
-use Rattle.linear_algebra.specs.Combines.{Combines, minus, IsReduced, beside}
+use Rattle.linear_algebra.specs.Combines.{Combines}
+use Rattle.linear_algebra.specs.steps.Slots.{minus, AreReducedSlots, beside}
 use Rattle.fq_linear.specs.steps.Places.{unit_row}
 
 -- The number of the row with lead `j`.
@@ -30,7 +31,7 @@ pub record IsReducedTable {E : Type 0} (r : RingOps E) (w : ℕ) (index : List (
   pub index_len : length index ≡ w
   pub elems : are_elems r cells ≡ true
   pub stored : HasRowsWithin w index (length cells)
-  pub reduced : IsReduced r w (is_lead index) (slot r w index cells)
+  pub reduced : AreReducedSlots r w (is_lead index) (slot r w index cells)
 
 -- Only the first `count` rows of the table are in the index.
 pub record IsBelow (count : ℕ) (index : List (Option ℕ)) : Type 0 where

@@ -1,6 +1,7 @@
 use Rattle.std.proofs.Common.{◌≡◌, ℕ, ◌<◌, true, length}
 use Rattle.ring_core.specs.Coeffs.{coeff, are_elems}
-use Rattle.linear_algebra.specs.Combines.{Combines, minus}
+use Rattle.linear_algebra.specs.Combines.{Combines}
+use Rattle.linear_algebra.specs.steps.Slots.{minus}
 use Rattle.fq_linear.specs.steps.Elimination.{is_lead, slot}
 use Rattle.fq_linear.proofs.eliminate.reduce_row.Given as goal
 

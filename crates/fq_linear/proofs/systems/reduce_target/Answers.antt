@@ -1,7 +1,8 @@
 use Rattle.std.proofs.Common.{length, sym, ◌∙◌, ap, subst}
 use Rattle.ring_core.specs.Coeffs.{coeff}
 use Rattle.ring_core.proofs.Coefficients.{elem_read}
-use Rattle.linear_algebra.specs.Combines.{Combines, minus}
+use Rattle.linear_algebra.specs.Combines.{Combines}
+use Rattle.linear_algebra.specs.steps.Slots.{minus}
 use Rattle.linear_algebra.proofs.Lift.{combines_as}
 use Rattle.fq_linear.specs.steps.Elimination.{slot}
 use Rattle.ring_core.proofs.Written.{elems_written}
