@@ -10,7 +10,9 @@ use ore_poly::OreRing;
 use ring_core::{B, E, FrobField, NoMemory};
 use std::alloc::Global;
 
-/// The characteristic: the minimal polynomial over the base of the constant of the module.
+/// The characteristic, lowest coefficient first: the monic polynomial over the base of least degree that has the
+/// constant of the module as a root, and the only one (the SageMath reference manual, chapter Drinfeld modules).
+/// The only refusal is want of memory.
 pub fn characteristic<K: FrobField>(
     alloc: Global,
     field: &K,
@@ -25,7 +27,8 @@ pub fn characteristic<K: FrobField>(
 }
 
 /// The height: the lowest power of tau in the image of the characteristic, divided by the degree of the
-/// characteristic (Papikian, Drinfeld Modules, Springer 2023). It is at least one and at most the rank.
+/// characteristic (Papikian, Drinfeld Modules, Springer 2023). It is a whole number, at least one and at most
+/// the rank. The only refusal is want of memory.
 pub fn height<K: FrobField>(alloc: Global, field: &K, phi: &Module<E<K>>) -> Result<usize, NoMemory>
     requires { IsModule (K.ops field.now) phi.now }
     ensures { IfOk result
@@ -41,7 +44,8 @@ pub fn height<K: FrobField>(alloc: Global, field: &K, phi: &Module<E<K>>) -> Res
     Ok(lowest / (p.len() - 1))
 }
 
-/// Whether the height is one.
+/// Whether the module is ordinary: its height is one (Papikian, Drinfeld Modules, Springer 2023). A module of rank
+/// one always is. The only refusal is want of memory.
 pub fn is_ordinary<K: FrobField>(
     alloc: Global,
     field: &K,
@@ -55,7 +59,8 @@ pub fn is_ordinary<K: FrobField>(
     Ok(h == 1)
 }
 
-/// Whether the height is the rank.
+/// Whether the module is supersingular: its height is the rank (Papikian, Drinfeld Modules, Springer 2023). A
+/// module of rank one always is, and is ordinary, too. The only refusal is want of memory.
 pub fn is_supersingular<K: FrobField>(
     alloc: Global,
     field: &K,

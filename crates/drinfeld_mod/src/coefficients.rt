@@ -27,7 +27,8 @@ fn lacks_rank<K: Field>(field: &K, coeffs: &[E<K>]) -> bool
 
 /// The module with these coefficients, lowest first: the list `z, g_1, .., g_r` stands for the image
 /// `z + g_1 tau + .. + g_r tau^r` of T. The fault is NoRank exactly where the list has fewer than two
-/// members or its last is zero, else TooLarge exactly where it has more than nine.
+/// members or its last is zero, else TooLarge exactly where it has more than nine; want of memory comes only
+/// where it has neither.
 pub fn make<K: FrobField>(
     alloc: Global,
     field: &K,
@@ -46,7 +47,8 @@ pub fn make<K: FrobField>(
     Ok(Module::from_vec(coeffs))
 }
 
-/// The image of T as a twisted polynomial.
+/// The image of T as a twisted polynomial, which has the same coefficients, lowest first. The only refusal is want
+/// of memory.
 pub fn as_ore<K: FrobField>(
     alloc: Global,
     field: &K,

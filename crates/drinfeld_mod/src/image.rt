@@ -14,8 +14,8 @@ use ring_core::{B, E, FrobField, NoMemory, Ring};
 use std::alloc::Global;
 
 /// The image `phi_a` of a polynomial over the base, the sum of `a_i phi_T^i`, where `a_i` is taken as a
-/// constant (the SageMath reference manual, chapter Drinfeld modules). A step of Horner's rule multiplies by
-/// `phi_T`, which has at most nine coefficients.
+/// constant (the SageMath reference manual, chapter Drinfeld modules). It is zero exactly where `a` is. A step of
+/// Horner's rule multiplies by `phi_T`, which has at most nine coefficients. The only refusal is want of memory.
 pub fn image_of<K: FrobField>(
     alloc: Global,
     field: &K,

@@ -10,7 +10,7 @@ use Rattle.ring_core.proofs.Degrees.{has_members}
 use Rattle.euclid_theory.proofs.Sizes.{HasSizes, quotients_same, cancel_right}
 use Rattle.euclid_theory.proofs.OreSizes.{Ores, ores, size, ore_sizes}
 use Rattle.drinfeld_mod.specs.Module.{IsModule, rank_of, constant_of}
-use Rattle.kernel_quotient.specs.Quotient.{Divides, IsQuotient}
+use Rattle.kernel_quotient.specs.Quotient.{IsOtherFactor, IsQuotient}
 
 module _ {M : Type 0} (R : RingOn M) (len : M → ℕ) (h : HasSizes R len) (u p : M) (nonzero : 0 < len u) (module_p : 0 < len p) where
   -- its degree
@@ -47,7 +47,7 @@ module _ {E B : Type 0} (r : RingOps E) (inv : E → Option E) (base : RingOps B
   long = let rank = m.rank_pos in omega (arith, rank)
 
   -- without a rest and with the constant of the module, the other factor is the quotient
-  pub quotient_found : (u c rest : List E) → is_canonical r u ≡ true → 0 < length u → Divides r f.frob phi u c rest → rest ≡ [] → constant_of r c ≡ constant_of r phi → IsQuotient r f.frob phi u c
+  pub quotient_found : (u c rest : List E) → is_canonical r u ≡ true → 0 < length u → IsOtherFactor r f.frob phi u c rest → rest ≡ [] → constant_of r c ≡ constant_of r phi → IsQuotient r f.frob phi u c
   quotient_found u c rest cu some d none constant =
       let U : Ores r inv base f k l = (u, cu) in
       let C : Ores r inv base f k l = (c, d.quotient) in
@@ -67,7 +67,7 @@ module _ {E B : Type 0} (r : RingOps E) (inv : E → Option E) (base : RingOps B
       }
 
   -- where there is a quotient, the division leaves no rest and gives it
-  pub quotient_given : (u c rest psi : List E) → Divides r f.frob phi u c rest → IsQuotient r f.frob phi u psi → (c ≡ psi) × (rest ≡ [])
+  pub quotient_given : (u c rest psi : List E) → IsOtherFactor r f.frob phi u c rest → IsQuotient r f.frob phi u psi → (c ≡ psi) × (rest ≡ [])
   quotient_given u c rest psi d q =
       let U : Ores r inv base f k l = (u, q.hom.canonical) in
       let C : Ores r inv base f k l = (c, d.quotient) in
@@ -78,10 +78,10 @@ module _ {E B : Type 0} (r : RingOps E) (inv : E → Option E) (base : RingOps B
       (same_element ops (S.mul U P) (S.add (S.mul C U) T) d.sum) d.lower in
       (ap (λ x. x.0) only.0, ap (λ x. x.0) only.1)
 
-  pub no_quotient_rest : (u c rest : List E) → Divides r f.frob phi u c rest → rest ≢ [] → (psi : List E) → IsQuotient r f.frob phi u psi → ⊥
+  pub no_quotient_rest : (u c rest : List E) → IsOtherFactor r f.frob phi u c rest → rest ≢ [] → (psi : List E) → IsQuotient r f.frob phi u psi → ⊥
   no_quotient_rest u c rest d some psi q = some (quotient_given u c rest psi d q).1
 
-  pub no_quotient_constant : (u c rest : List E) → Divides r f.frob phi u c rest → constant_of r c ≢ constant_of r phi → (psi : List E) → IsQuotient r f.frob phi u psi → ⊥
+  pub no_quotient_constant : (u c rest : List E) → IsOtherFactor r f.frob phi u c rest → constant_of r c ≢ constant_of r phi → (psi : List E) → IsQuotient r f.frob phi u psi → ⊥
   no_quotient_constant u c rest d other psi q = other (ap (constant_of r) (quotient_given u c rest psi d q).0 ∙ q.constant)
 
   pub one_quotient : (u psi chi : List E) → IsQuotient r f.frob phi u psi → IsQuotient r f.frob phi u chi → psi ≡ chi

@@ -15,17 +15,17 @@ pub record IsQuotient {E : Type 0} (r : RingOps E) (frob : E → ℕ → E) (phi
   pub constant : constant_of r psi ≡ constant_of r phi
   pub hom : IsHomomorphism r frob phi psi u
 
--- Division of `u phi_T` by `u` on the right.
-abbrev pub Divides : {E : Type 0} → RingOps E → (E → ℕ → E) → List E → List E → List E → List E → Type 0
-Divides r frob phi u c rest = IsRightDivision r frob (list_mul r frob u phi) u c rest
+-- `u phi_T` is `c u` and the rest: `c` is the other factor where the rest is zero.
+abbrev pub IsOtherFactor : {E : Type 0} → RingOps E → (E → ℕ → E) → List E → List E → List E → List E → Type 0
+IsOtherFactor r frob phi u c rest = IsRightDivision r frob (list_mul r frob u phi) u c rest
 
 -- What is answered: the quotient, or why there is none: `u` is zero, or else it leaves a remainder when it divides
 -- `u phi_T` on the right, or else the constant of the other factor isn't that of `phi`.
 abbrev pub IsQuotientAnswer : {E : Type 0} → RingOps E → (E → ℕ → E) → List E → List E → Result (List E) (NoQuotient E) → Type 0
 IsQuotientAnswer r frob phi u (Ok psi) = IsQuotient r frob phi u psi
 IsQuotientAnswer r frob phi u (Err Zero) = u ≡ []
-IsQuotientAnswer {E} r frob phi u (Err (Remainder rest)) = (u ≢ []) × (rest ≢ []) × ((c : List E) × Divides r frob phi u c rest)
-IsQuotientAnswer {E} r frob phi u (Err (Constant z)) = (u ≢ []) × (z ≢ constant_of r phi) × ((c : List E) × Divides r frob phi u c [] × (z ≡ constant_of r c))
+IsQuotientAnswer {E} r frob phi u (Err (Remainder rest)) = (u ≢ []) × (rest ≢ []) × ((c : List E) × IsOtherFactor r frob phi u c rest)
+IsQuotientAnswer {E} r frob phi u (Err (Constant z)) = (u ≢ []) × (z ≢ constant_of r phi) × ((c : List E) × IsOtherFactor r frob phi u c [] × (z ≡ constant_of r c))
 IsQuotientAnswer r frob phi u (Err NoMemory) = u ≢ []
 
 -- A refusal that isn't want of memory.

@@ -1,7 +1,7 @@
 ghost use Rattle.std.specs.Prelude.{◌≡◌, ◌≢◌, [], List, IfErr, IfOk, true};
 ghost use Rattle.ring_core.specs.Coeffs.{is_canonical};
 ghost use Rattle.drinfeld_mod.specs.Module.{IsModule};
-ghost use Rattle.kernel_quotient.specs.Quotient.{Divides, IsQuotient, IsQuotientAnswer, IsRefusal};
+ghost use Rattle.kernel_quotient.specs.Quotient.{IsOtherFactor, IsQuotient, IsQuotientAnswer, IsRefusal};
 
 use super::fault::NoQuotient;
 use drinfeld_mod::{Module, as_ore};
@@ -20,7 +20,7 @@ fn other_factor<K: FrobField>(
 ) -> Result<Division<E<K>>, NoMemory>
     requires module { IsModule (K.ops field.now) phi.now }
     requires divisor { is_canonical (K.ops field.now) u.now ≡ true }
-    ensures { IfOk result (λ d. Divides (K.ops field.now) (K.frob_ops field.now).frob phi.now u.now d.quotient d.remainder) }
+    ensures { IfOk result (λ d. IsOtherFactor (K.ops field.now) (K.frob_ops field.now).frob phi.now u.now d.quotient d.remainder) }
 {
     let letter = as_ore(alloc, field, phi)?;
     let product = OreRing::new(field).mul(alloc, u, &letter)?;
@@ -32,8 +32,9 @@ fn other_factor<K: FrobField>(
 
 /// The quotient of `phi` by `u`: the module with the constant of `phi` to which `u` is a homomorphism from `phi`
 /// (the SageMath reference manual, chapter Drinfeld modules, `velu`). The refusals come in this order: Zero exactly
-/// where `u` is zero; Remainder exactly where `u` leaves a remainder when it divides `u phi_T` on the right; Constant
-/// exactly where the other factor has another constant than `phi`. Where one of them comes there is no quotient.
+/// where `u` is zero; else Remainder exactly where `u` leaves a remainder when it divides `u phi_T` on the right, with
+/// that remainder; else Constant exactly where the other factor has another constant than `phi`, with that constant.
+/// Where one of them comes there is no quotient. Want of memory comes only where `u` isn't zero.
 pub fn quotient<K: FrobField>(
     alloc: Global,
     field: &K,

@@ -53,8 +53,9 @@ fn monic_relation<F: Field>(alloc: Global, f: &F, list: &[E<F>]) -> Result<Vec<E
     Ok(relation)
 }
 
-/// The minimal polynomial of `c` over the base of `k`: the monic polynomial of least degree that has the
-/// root `c`.
+/// The minimal polynomial of `c` over the base of `k`, lowest coefficient first: the monic polynomial of
+/// least degree that has the root `c`, and the only one. Its degree is at most that of the field. It is
+/// `minpoly` of elements of finite fields in the SageMath reference manual. The only refusal is want of memory.
 pub fn min_poly<K: FrobField>(alloc: Global, k: &K, c: E<K>) -> Result<Poly<B<K>>, NoMemory>
     requires { IsElem (K.ops k.now) c }
     ensures { IfOk result (IsMinPoly (K.ops k.now) (K.Base.ops (K.base_of k.now)) (K.frob_ops k.now).embed c) }

@@ -13,8 +13,9 @@ use ore_poly::{Ore, OreRing};
 use ring_core::{B, E, FrobField, NoMemory, Ring};
 use std::alloc::Global;
 
-/// The homomorphism `u` from `phi` to `psi`, two modules with the same constant; None exactly where
-/// `u phi_T` differs from `psi_T u`.
+/// The homomorphism `u` from `phi` to `psi`, two modules with the same constant, as a value that holds copies of
+/// all three (the SageMath reference manual, chapter Drinfeld modules); None exactly where `u phi_T` differs from
+/// `psi_T u`. Zero is a homomorphism. The only refusal is want of memory.
 pub fn check<K: FrobField>(
     alloc: Global,
     field: &K,
@@ -62,7 +63,8 @@ fn commutes<K: FrobField>(
     Ok(ring.equal(&left, &right))
 }
 
-/// The composition `v u`, from the source of `u` to the target of `v`, where `v` goes on from where `u` ends.
+/// The composition of `u` and then `v`, where the source of `v` is the target of `u`: the product `v u` as twisted
+/// polynomials, from the source of `u` to the target of `v`. The only refusal is want of memory.
 pub fn compose<K: FrobField>(
     alloc: Global,
     field: &K,
@@ -86,7 +88,8 @@ pub fn compose<K: FrobField>(
     })
 }
 
-/// The sum of two homomorphisms between the same modules.
+/// The sum of two homomorphisms that have the same source and the same target, which it keeps. The only refusal is
+/// want of memory.
 pub fn add<K: FrobField>(
     alloc: Global,
     field: &K,
@@ -106,7 +109,8 @@ pub fn add<K: FrobField>(
     Ok(Morphism { u: sum, from, to })
 }
 
-/// The product `u phi_a` of a homomorphism `u` from `phi` and a polynomial `a` over the base.
+/// What the polynomial `a` over the base makes of a homomorphism `u` from `phi`: the product `u phi_a`, between the
+/// same modules. The only refusal is want of memory.
 pub fn act<K: FrobField>(
     alloc: Global,
     field: &K,

@@ -43,14 +43,14 @@ impl<C: Copy> Morphism<C> {
         &self.to
     }
 
-    /// Whether it isn't zero.
+    /// Whether it is an isogeny: it isn't zero.
     pub fn is_isogeny(&self) -> bool
         ensures { IsTrue result ↔ (self.now.ore ≢ []) }
     {
         self.u.len() > 0
     }
 
-    /// Whether it is a constant that isn't zero.
+    /// Whether it is an isomorphism over the field: it is a constant that isn't zero.
     pub fn is_isomorphism(&self) -> bool
         ensures { IsTrue result ↔ (degree_of self.now.ore ≡ Some 0) }
     {

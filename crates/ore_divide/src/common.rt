@@ -102,7 +102,8 @@ fn multiple_from<K: FrobField>(
 /// The greatest common right divisor `d = s a + w b`, which is monic, or zero where both operands are. The
 /// cofactors are fixed so: where both operands are nonzero, `s` is zero or of lower degree than `b` less that
 /// of `d`; where one is zero, its cofactor is zero and the other one a constant, zero where both are zero. So
-/// there is only one answer. The divisor is `right_gcd` of twisted polynomials in the SageMath reference manual.
+/// there is only one answer. The divisor is `right_gcd` of twisted polynomials in the SageMath reference manual. The
+/// only refusal is want of memory.
 pub fn common_right<K: FrobField>(
     alloc: Global,
     k: &K,
@@ -141,7 +142,8 @@ fn no_multiple<K: FrobField>(alloc: Global, k: &K) -> Result<Multiple<E<K>>, NoM
 }
 
 /// The least common left multiple `m = s a = w b`, which is monic; all three are zero where an operand is zero.
-/// There is only one answer. The multiple is `left_lcm` of twisted polynomials in the SageMath reference manual.
+/// There is only one answer. The multiple is `left_lcm` of twisted polynomials in the SageMath reference manual. The
+/// only refusal is want of memory.
 pub fn common_multiple<K: FrobField>(
     alloc: Global,
     k: &K,

@@ -13,15 +13,15 @@ use std::alloc::Global;
 /// Quotient and remainder of a division.
 #[derive(Drop)]
 pub struct Division<C> {
-    /// How often the divisor was taken away.
+    /// The factor of the divisor: on its left in a division on the right, and on its right in one on the left.
     pub quotient: Ore<C>,
     /// What is left: zero, or of lower degree than the divisor.
     pub remainder: Ore<C>,
 }
 
 /// Division on the right: `a` is the quotient times `b`, and the remainder, which is zero or of lower degree
-/// than `b`. There is only one answer. The fault is ZeroDivisor exactly where `b` is zero. This is
-/// `right_quo_rem` of twisted polynomials in the SageMath reference manual.
+/// than `b`. There is only one answer. The fault is ZeroDivisor exactly where `b` is zero, else want of memory.
+/// This is `right_quo_rem` of twisted polynomials in the SageMath reference manual.
 pub fn right_divide<K: FrobField>(
     alloc: Global,
     k: &K,
@@ -44,8 +44,8 @@ pub fn right_divide<K: FrobField>(
 }
 
 /// Division on the left: `a` is `b` times the quotient, and the remainder, which is zero or of lower degree
-/// than `b`. There is only one answer. The fault is ZeroDivisor exactly where `b` is zero. This is
-/// `left_quo_rem` of twisted polynomials in the SageMath reference manual; it takes roots of the Frobenius.
+/// than `b`. There is only one answer. The fault is ZeroDivisor exactly where `b` is zero, else want of memory.
+/// This is `left_quo_rem` of twisted polynomials in the SageMath reference manual; it takes roots of the Frobenius.
 pub fn left_divide<K: FrobField>(
     alloc: Global,
     k: &K,

@@ -4,7 +4,7 @@ use Rattle.std.proofs.lemmas.List.{nil_from_length}
 use Rattle.ring_core.specs.Ring.{IsElem}
 use Rattle.ring_core.proofs.Coefficients.{elem_read}
 use Rattle.drinfeld_mod.specs.Module.{constant_of}
-use Rattle.kernel_quotient.specs.Quotient.{Divides}
+use Rattle.kernel_quotient.specs.Quotient.{IsOtherFactor}
 use Rattle.kernel_quotient.proofs.Factors.{quotient_found, no_quotient_rest, no_quotient_constant}
 use Rattle.kernel_quotient.proofs.division.quotient.Goals as goal
 
@@ -21,7 +21,7 @@ returns-then-len-gt0-clause-none g c = λ refused psi q.
     let u = c.args.u.now in
     let quotient = c.in_ok-quotient.field-0.quotient in
     let rest = c.in_ok-quotient.field-0.remainder in
-    let divides : Divides r f.frob phi u quotient rest = c.in_ok-quotient.ensures in
+    let divides : IsOtherFactor r f.frob phi u quotient rest = c.in_ok-quotient.ensures in
     let some : rest ≢ [] = λ e. let none : length rest ≡ 0 = ap length e in absurd (omega (arith, none, c.len-2.ensures)) in
     no_quotient_rest r inv base f field laws phi c.requires.module u quotient rest divides some psi q
 
@@ -44,7 +44,7 @@ returns-then-not-equal-clause-none g c = λ refused psi q.
     let u = c.args.u.now in
     let quotient = c.in_ok-quotient.field-0.quotient in
     let rest = c.in_ok-quotient.field-0.remainder in
-    let divides : Divides r f.frob phi u quotient rest = c.in_ok-quotient.ensures in
+    let divides : IsOtherFactor r f.frob phi u quotient rest = c.in_ok-quotient.ensures in
     let own : c.coeff_at-constant.result ≡ constant_of r quotient = rw c.as_slice.ensures at c.coeff_at-constant.ensures.value in
     let source : c.constant.result ≡ constant_of r phi = c.constant.ensures r in
     let no : c.equal.result ≡ false = c.if-not-equal.true in
@@ -66,7 +66,7 @@ returns-clause-answer g c =
     let u = c.args.u.now in
     let quotient = c.in_ok-quotient.field-0.quotient in
     let rest = c.in_ok-quotient.field-0.remainder in
-    let divides : Divides r f.frob phi u quotient rest = c.in_ok-quotient.ensures in
+    let divides : IsOtherFactor r f.frob phi u quotient rest = c.in_ok-quotient.ensures in
     let own : c.coeff_at-constant.result ≡ constant_of r quotient = rw c.as_slice.ensures at c.coeff_at-constant.ensures.value in
     let source : c.constant.result ≡ constant_of r phi = c.constant.ensures r in
     let yes : c.equal.result ≡ true = c.if-not-equal.false in
