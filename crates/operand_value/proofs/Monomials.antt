@@ -1,27 +1,19 @@
 -- Terms of polynomials, added one after another and in place.
 use Rattle.std.proofs.Common.{◌≡◌, ◌≢◌, ℕ, ◌+◌, ◌<◌, true, List, [], ◌∷◌, ◌++◌, length, take, fold, get_or, set, refl, sym, ◌∙◌, ap, ap₂, ⊎_elim, get_or-set_same, get_or-set_other}
 use Rattle.std.proofs.lemmas.Bool.{and_parts, cases_eq}
-use Rattle.std.proofs.lemmas.List.{take_more, length-append}
+use Rattle.std.proofs.lemmas.List.{take_more}
 use Rattle.ring_core.specs.Ring.{RingOps, IsElem, IsRing}
 use Rattle.ring_core.specs.Coeffs.{coeff, trim, are_elems}
 use Rattle.ring_core.specs.Monomial.{monomial}
 use Rattle.ring_core.specs.Twisted.{list_add}
 use Rattle.ring_core.proofs.Carrier.{elements, add_zero}
-use Rattle.ring_core.proofs.Coefficients.{elem_read, elems_set, elems-trim, trim_push, trimmed-trim, coeff-trim, same_coeffs}
+use Rattle.ring_core.proofs.Coefficients.{elem_read, elems_set, elems-trim, trimmed-trim, coeff-trim, same_coeffs}
 use Rattle.ring_core.proofs.ListRing.{add_in, coeff-add}
 use Rattle.ring_core.proofs.Monomial.{monomial_in, coeff-monomial_same, coeff-monomial_other}
 use Rattle.script_lang.specs.declared.Term.{Term}
 use Rattle.operand_value.specs.Values.{Letters, term_value, terms_poly}
 
-pub one_longer : {E : Type 0} (u w : List E) (x : E) {n : ℕ} → w ≡ u ++ x ∷ [] → length u ≡ n → length w ≡ n + 1
-one_longer u w x pushed e = ap length pushed ∙ length-append u (x ∷ []) ∙ ap (λ m. m + 1) e
-
 module _ {E : Type 0} (r : RingOps E) (h : IsRing r) where
-  -- a zero more at the top
-  pub widened : (u w : List E) (x : E) → w ≡ u ++ x ∷ [] → x ≡ r.zero → trim r w ≡ trim r u
-  widened u w x pushed e =
-      ap (trim r) pushed ∙ trim_push r u x (ap (λ y. r.same y r.zero) e ∙ h.equal.same_refl r.zero h.closed.zero_in)
-
   -- one place with a term added is that place of the sum with the term
   added_there : (u : List E) (c : E) (k i : ℕ) → k < length u → are_elems r u ≡ true → IsElem r c
       → coeff r (set u k (r.add (coeff r u k) c)) i ≡ r.add (coeff r u i) (coeff r (monomial r c k) i)

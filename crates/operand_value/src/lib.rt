@@ -5,9 +5,10 @@ mod fields;
 mod letters;
 mod operands;
 mod poly;
+mod powers;
 mod value;
 
 pub use letters::Letters;
 pub use operands::{base_modulus, list_values, top_modulus, twisted_sum};
 pub use poly::poly_value;
-pub use value::{sum_value, sum_values};
+pub use value::sum_values;

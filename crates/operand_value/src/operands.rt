@@ -43,7 +43,7 @@ pub fn base_modulus(alloc: Global, p: u32, modulus: &Option<Sum>) -> Result<Vec<
 }
 
 /// The modulus of a top field, lowest coefficient first: the polynomial in `z` that is typed.
-#[tactic(auto, unfolding(crate::specs::Operands::top_modulus))]
+#[tactic(auto, unfolding(crate::specs::Operands::base_polynomial))]
 pub fn top_modulus(alloc: Global, base: &BaseField, sum: &Sum) -> Result<Vec<Code>, NoMemory>
     ensures value { IfOk result (λ v. v.items ≡ top_modulus base.now sum.now) }
     ensures elem { IfOk result (λ v. is_canonical (ops_of base.now) v.items ≡ true) }

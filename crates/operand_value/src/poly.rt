@@ -1,4 +1,4 @@
-ghost use Rattle.std.specs.Prelude.{◌≡◌, ◌≤◌, ◌<◌, IfOk, OnOk, length, true};
+ghost use Rattle.std.specs.Prelude.{◌≡◌, ◌<◌, IfOk, OnOk, length, true};
 ghost use Rattle.ring_core.specs.Ring.{IsElem};
 ghost use Rattle.ring_core.specs.Coeffs.{are_elems, is_canonical, trim};
 ghost use Rattle.ring_core.specs.Monomial.{monomial};
@@ -6,25 +6,13 @@ ghost use Rattle.ring_core.specs.Twisted.{list_add};
 ghost use Rattle.operand_value.specs.Values.{poly_value};
 
 use super::letters::Letters;
+use super::powers::{Uses, powers_of_a, powers_of_z};
 use super::value::term_value;
 use ring_core::lists::{coeff_at, trimmed};
+use ring_core::rows::extend;
 use ring_core::{E, Field, NoMemory};
 use script_lang::Sum;
 use std::alloc::Global;
-
-/// Makes the row at least `n` places long, by zeros at its top.
-fn widen<F: Field>(field: &F, row: &mut Vec<E<F>>, n: usize) -> Result<(), NoMemory>
-    requires { are_elems (F.ops field.now) row.old.items ≡ true }
-    ensures elems { OnOk result (are_elems (F.ops field.now) row.new.items ≡ true) }
-    ensures room { OnOk result (n ≤ length row.new.items) }
-    ensures same { OnOk result (trim (F.ops field.now) row.new.items ≡ trim (F.ops field.now) row.old.items) }
-{
-    for _ in row.len()..n {
-        let zero = field.zero();
-        row.push(zero)?;
-    }
-    Ok(())
-}
 
 /// Adds `c` to the coefficient at `k`, in place.
 fn add_at<F: Field>(field: &F, row: &mut [E<F>], k: usize, c: E<F>)
@@ -48,7 +36,7 @@ fn add_term<F: Field>(field: &F, row: &mut Vec<E<F>>, k: u32, c: E<F>) -> Result
         OnOk result (trim r row.new.items ≡ list_add r (trim r row.old.items) (monomial r c k)) }
 {
     let place = k as usize;
-    widen(field, row, place + 1)?;
+    extend(field, row, place + 1)?;
     add_at(field, row, place, c);
     Ok(())
 }
@@ -59,9 +47,13 @@ pub fn poly_value<F: Letters>(alloc: Global, field: &F, sum: &Sum) -> Result<Vec
     ensures value { IfOk result (λ v. v.items ≡ poly_value (F.ops field.now) (F.letters field.now) sum.now) }
     ensures elem { IfOk result (λ v. is_canonical (F.ops field.now) v.items ≡ true) }
 {
+    let mut uses = Uses::none();
+    uses.count(sum);
+    let a = powers_of_a(alloc, field, uses)?;
+    let z = powers_of_z(alloc, field, uses)?;
     let mut row = Vec::new(alloc);
     for term in sum.terms.as_slice() {
-        let value = term_value(field, term);
+        let value = term_value(field, &a, &z, term);
         add_term(field, &mut row, term.power, value)?;
     }
     Ok(trimmed(field, row))

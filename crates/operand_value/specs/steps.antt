@@ -1,0 +1,2 @@
+-- What the functions behind the public calls do, which only their own contracts cite.
+pub mod Powers
