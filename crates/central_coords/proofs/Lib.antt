@@ -1,0 +1,7 @@
+pub mod Expand
+pub mod Places
+pub mod Raised
+pub mod Rows
+pub mod Blocks
+pub mod Linear
+pub mod Leading

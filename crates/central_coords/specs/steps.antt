@@ -1,0 +1,2 @@
+-- What private functions do.
+pub mod Highest
