@@ -5,7 +5,7 @@ use mathlib.Core.Path.{fun_ext}
 use Rattle.std.proofs.lemmas.Bool.{cases_lt}
 use Rattle.ring_core.proofs.Carrier.{RingOn, add_zero, mul_zero, zero_mul, neg_add, neg_mul}
 use Rattle.ring_core.proofs.Series.{conv-scale}
-use Rattle.linear_algebra.specs.Combines.{beside}
+use Rattle.linear_algebra.specs.steps.Slots.{beside}
 use Rattle.linear_algebra.proofs.Augment.{beside_low, beside_past}
 use Rattle.linear_algebra.proofs.Sums.{combine, total_rest, combine_same, combine_neg, combine_scale}
 use Rattle.linear_algebra.proofs.Spans.{Spans}
