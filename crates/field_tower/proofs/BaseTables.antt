@@ -45,13 +45,13 @@ places_suffice p s large small =
       | inr within ↦ within
     ]
 
-pub modulus_of : (p s : ℕ) (modulus : List ℕ) → is_listed p ≡ true → 0 < s → p ^ s ≤ CODES → length modulus ≡ s + 1
-    → are_elems (prime_ops p) modulus ≡ true → slice_index modulus s ≡ 1 → IsModulus (prime_ops p) modulus
-modulus_of p s modulus listed positive small len elems top =
+pub modulus_of : (p s q : ℕ) (w modulus : List ℕ) → w ≡ modulus → is_listed p ≡ true → 0 < s → q ≡ p ^ s → q ≤ CODES → length modulus ≡ s + 1
+    → are_elems (prime_ops p) modulus ≡ true → slice_index modulus s ≡ 1 → IsModulus (prime_ops p) w
+modulus_of p s q w modulus is listed positive count small len elems top =
     let place : length modulus - 1 ≡ s = omega arith in
-    record {
+    subst (IsModulus (prime_ops p)) (sym is) (record {
       degree = omega arith;
-      room = omega (arith, places_suffice p s (listed_large p listed) small);
+      room = omega (arith, places_suffice p s (listed_large p listed) (subst (λ n. n ≤ CODES) count small));
       elems = elems;
       monic = ap (coeff (prime_ops p) modulus) place ∙ top;
-    }
+    })

@@ -1,19 +1,20 @@
 -- Codes and their digits, as code makes them.
-use Rattle.std.proofs.Common.{◌≡◌, inl, inr, ℕ, suc, ◌+◌, ◌-◌, ◌*◌, ◌^◌, ◌/◌, ◌<◌, ◌≤◌, length, slice_index, sym, ap, ap₂, subst, ◌∙◌, arith, lt-ltb, ltb-true, pow-suc, mul-le-mul_right, div-lt_iff_lt-mul}
+use Rattle.std.proofs.Common.{◌≡◌, inl, inr, ℕ, suc, ◌+◌, ◌-◌, ◌*◌, ◌^◌, ◌/◌, ◌<◌, ◌≤◌, true, List, length, slice_index, sym, ap, ap₂, subst, ◌∙◌, arith, lt-ltb, ltb-true, pow-suc, mul-le-mul_right, div-lt_iff_lt-mul}
 use Rattle.std.proofs.lemmas.Bool.{cases_lt}
 use native.Mathlib.Nat.{pow-le-pow_right}
 use mathlib.Core.Path.{fun_ext}
-use Rattle.ring_core.specs.Coeffs.{coeff}
+use Rattle.ring_core.specs.Ring.{IsElem}
 use Rattle.ring_core.proofs.Coefficients.{elem_read}
 use Rattle.residue_field.specs.declared.TopElem.{TopElem}
 use Rattle.residue_field.specs.declared.TheConstants.{WIDTH}
-use Rattle.residue_field.specs.Prime.{prime_ops}
+use Rattle.residue_field.specs.Prime.{is_listed, prime_ops}
 use Rattle.residue_field.specs.Digits.{digit, number}
 use Rattle.residue_field.proofs.Modular.{prime_ring}
+use Rattle.residue_field.proofs.Listed.{listed_large}
 use Rattle.residue_field.proofs.DigitLaws.{number-same, digit_below, digit_past}
 use Rattle.residue_field.proofs.TopPlaces.{elems_of}
-use Rattle.field_tower.specs.steps.Places.{IsStored, stored}
-use Rattle.field_tower.proofs.Stored.{stored_from, stored_in, stored-low}
+use Rattle.field_tower.specs.steps.Places.{IsModulus, IsStored, stored, stored_ops}
+use Rattle.field_tower.proofs.Stored.{stored_from, stored_in, stored-low, fits_of, elem_of, stored_of}
 
 -- one more digit below the digits from place i on
 pub number_step : (p n i : ℕ) (g : ℕ → ℕ) (c : ℕ) → 0 < i → i ≤ n → c ≡ number p (n - i) (λ j. g (i + j))
@@ -54,29 +55,45 @@ power_passes p s i q limit positive base is later passes =
     swap : (a b : ℕ) → a * b ≡ b * a
     swap a b = omega arith
 
-module _ (p d : ℕ) (large : 1 < p) (fits : suc d ≤ WIDTH) (n : ℕ) (size : n ≡ suc d) where
+module _ (p : ℕ) (listed : is_listed p ≡ true) (modulus : List ℕ) (monic : IsModulus (prime_ops p) modulus) where
+  abbrev d : ℕ
+  d = length modulus - 2
+
+  abbrev n : ℕ
+  n = length modulus - 1
+
+  large : 1 < p
+  large = listed_large p listed
+
+  fits : suc d ≤ WIDTH
+  fits = fits_of (prime_ops p) (prime_ring p large) modulus monic
+
+  size : n ≡ suc d
+  size = omega (arith, monic.degree)
+
   -- n digits with zero past them are all digits of a number below p^n
   pub digits_are : (t : TopElem) (c : ℕ) → c < p ^ n → ((i : ℕ) → i < n → slice_index t.0 i ≡ digit p c i) → ((i : ℕ) → n ≤ i → slice_index t.0 i ≡ 0)
-      → (i : ℕ) → coeff (prime_ops p) t.0 i ≡ digit p c i
+      → (i : ℕ) → slice_index t.0 i ≡ digit p c i
   digits_are t c below low past i =
       elim (cases_lt i n) [
         | inl l ↦ low i l
-        | inr l ↦ past i l ∙ sym (digit_past p (omega arith) n c i below l)
+        | inr l ↦ past i l ∙ sym (digit_past p (omega (arith, large)) n c i below l)
       ]
 
-  pub digits_stored : (t : TopElem) (c : ℕ) → length t.0 ≡ WIDTH → c < p ^ n → ((i : ℕ) → i < n → slice_index t.0 i ≡ digit p c i) → ((i : ℕ) → n ≤ i → slice_index t.0 i ≡ 0)
-      → IsStored (prime_ops p) d t
-  digits_stored t c width below low past =
-      let all = digits_are t c below low past in
-      subst (IsStored (prime_ops p) d)
-      (sym (stored_from (prime_ops p) d t.0 (digit p c) width (λ i l. all i) (λ i (l : suc d ≤ i). past i (omega arith))))
-      (stored_in (prime_ops p) d (prime_ring p large) fits (digit p c) (λ i. lt-ltb _ p (digit_below p (omega arith) c i)))
+  pub digits_stored : (t : TopElem) (c : ℕ) → length t.0 ≡ WIDTH → ((i : ℕ) → slice_index t.0 i ≡ digit p c i) → ((i : ℕ) → n ≤ i → slice_index t.0 i ≡ 0)
+      → IsElem (stored_ops (prime_ops p) modulus) t
+  digits_stored t c width all past =
+      elem_of (prime_ops p) modulus t
+      (subst (IsStored (prime_ops p) d)
+      (sym (stored_from (prime_ops p) d t.0 (digit p c) width (λ i l. all i) (λ i (l : suc d ≤ i). past i (omega (arith, size)))))
+      (stored_in (prime_ops p) d (prime_ring p large) fits (digit p c) (λ i. lt-ltb _ p (digit_below p (omega (arith, large)) c i))))
 
-  pub digits_below : (t : TopElem) → IsStored (prime_ops p) d t → (i : ℕ) → slice_index t.0 i < p
+  pub digits_below : (t : TopElem) → IsElem (stored_ops (prime_ops p) modulus) t → (i : ℕ) → slice_index t.0 i < p
   digits_below t e i =
-      ltb-true _ p (elem_read (prime_ops p) t.0 (prime_ring p large).closed.zero_in (elems_of (prime_ops p) (prime_ring p large) d fits t e) i)
+      ltb-true _ p (elem_read (prime_ops p) t.0 (prime_ring p large).closed.zero_in (elems_of (prime_ops p) (prime_ring p large) d fits t (stored_of (prime_ops p) modulus t e)) i)
 
-  pub number-stored : (t : TopElem) (g : ℕ → ℕ) → t ≡ stored (prime_ops p) d g → number p n (slice_index t.0) ≡ number p (suc d) g
-  number-stored t g e =
-      ap (λ k. number p k (slice_index t.0)) size ∙ ap (λ u. number p (suc d) (slice_index u.0)) e
-      ∙ number-same p (suc d) _ g (λ i l. stored-low (prime_ops p) d fits g i l)
+  -- the code of a residue, told by its coefficients
+  pub code_made : (t : TopElem) (g h : ℕ → ℕ) → t ≡ stored (prime_ops p) d g → ((i : ℕ) → g i ≡ h i) → number p n (slice_index t.0) ≡ number p (suc d) h
+  code_made t g h is same =
+      ap (λ k. number p k (slice_index t.0)) size ∙ ap (λ u. number p (suc d) (slice_index u.0)) is
+      ∙ number-same p (suc d) _ h (λ i l. stored-low (prime_ops p) d fits g i l ∙ same i)

@@ -1,7 +1,7 @@
 -- Pairs of codes, from pairs of residues in places.
 use native.Mathlib.Nat.{pow-le-pow_right, pow-zero}
 use Rattle.std.proofs.Common.{◌≡◌, ℕ, suc, ◌-◌, ◌*◌, ◌^◌, ◌<◌, ◌≤◌, true, List, length, slice_index, ap, sym, subst, ◌∙◌, arith, pow-suc}
-use Rattle.ring_core.specs.Ring.{IsElem, IsRing}
+use Rattle.ring_core.specs.Ring.{IsRing}
 use Rattle.ring_core.specs.Coeffs.{coeff}
 use Rattle.finite_ring.specs.Finite.{HasNoPair}
 use Rattle.residue_field.specs.declared.TopElem.{TopElem}
@@ -18,8 +18,7 @@ use Rattle.field_tower.specs.declared.size.TheConstants.{CODES}
 use Rattle.field_tower.specs.steps.Places.{IsModulus, stored_ops}
 use Rattle.field_tower.specs.steps.Constants.{IsFieldOfCodes}
 use Rattle.field_tower.specs.Pairs.{IsPair}
-use Rattle.field_tower.proofs.Stored.{fits_of, modulus_monic, stores_of, stored_of}
-use Rattle.field_tower.proofs.CodeDigits.{digits_below}
+use Rattle.field_tower.proofs.Stored.{modulus_monic, stores_of}
 use Rattle.field_tower.proofs.ConstantValues.{prime_codes}
 
 module _ (p : ℕ) (listed : is_listed p ≡ true) (modulus : List ℕ) (monic : IsModulus (prime_ops p) modulus) where
@@ -52,12 +51,6 @@ module _ (p : ℕ) (listed : is_listed p ≡ true) (modulus : List ℕ) (monic :
   no_code_pair =
       no_pair_moved (prime_ops p) ring (prime_commutes p) d (coeff (prime_ops p) modulus) (modulus_monic (prime_ops p) ring modulus monic)
       (top_places (prime_ops p) d) places (code_places p d) codes
-
-  pub digits_small : (t : TopElem) → IsElem (stored_ops (prime_ops p) modulus) t → (i : ℕ) → slice_index t.0 i < p
-  digits_small t e =
-      let degree : 2 ≤ length modulus = monic.degree in
-      let size : length modulus - 1 ≡ suc d = omega arith in
-      digits_below p d large (fits_of (prime_ops p) ring modulus monic) (length modulus - 1) size t (stored_of (prime_ops p) modulus t e)
 
   -- the code of a residue
   code_of : TopElem → ℕ

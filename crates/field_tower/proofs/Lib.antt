@@ -1,6 +1,7 @@
 pub mod Rows
 pub mod Writes
 pub mod Stored
+pub mod FilledPlaces
 pub mod StoredValues
 pub mod PowerSteps
 pub mod Letter

@@ -1,32 +1,20 @@
 -- Powers in the steps in which code computes them.
 use native.Mathlib.Nat.{pow-zero}
 use Rattle.std.proofs.Math.Nat.{one-le-pow}
-use Rattle.std.proofs.Common.{◌≡◌, ℕ, suc, ◌+◌, ◌-◌, ◌*◌, ◌^◌, ◌<◌, ◌≤◌, sym, ap, ap₂, ◌∙◌, arith, pow-suc}
+use Rattle.std.proofs.Common.{◌≡◌, ℕ, suc, ◌+◌, ◌-◌, ◌*◌, ◌^◌, ◌<◌, ◌≤◌, sym, ap, ◌∙◌, arith, pow-suc}
 use Rattle.ring_core.specs.Ring.{RingOps, IsElem, IsRing}
 use Rattle.ring_core.specs.Powers.{power_of}
 use Rattle.ring_core.proofs.Carrier.{Element, elements}
-use Rattle.finite_ring.proofs.Powers.{power, power_value, power-add, power-power}
+use Rattle.ring_core.proofs.PowerLaws.{power-add}
+use Rattle.finite_ring.proofs.Powers.{power, power_value, power-power}
 
 module _ {E : Type 0} (r : RingOps E) (h : IsRing r) (a : E) (p : IsElem r a) where
-  pub power_plus : (i j : ℕ) → power_of r a (i + j) ≡ r.mul (power_of r a i) (power_of r a j)
-  power_plus i j =
-      let x : Element r = (a, p) in
-      sym (power_value r h x (i + j)) ∙ ap (λ y. y.0) (power-add (elements h) x i j)
-      ∙ ap₂ r.mul (power_value r h x i) (power_value r h x j)
-
   pub power_times : (i j : ℕ) → power_of r (power_of r a i) j ≡ power_of r a (i * j)
   power_times i j =
       let x : Element r = (a, p) in
       let y : Element r = power (elements h) x i in
       ap (λ z. power_of r z j) (sym (power_value r h x i)) ∙ sym (power_value r h y j)
       ∙ ap (λ z. z.0) (power-power (elements h) x i j) ∙ power_value r h x (i * j)
-
-  -- a^(m + m) as a square
-  pub power_square : (k m : ℕ) → k ≡ m + m → r.mul (power_of r a m) (power_of r a m) ≡ power_of r a k
-  power_square k m e = sym (power_plus m m) ∙ ap (power_of r a) (sym e)
-
-  pub power_square_times : (k m : ℕ) → k ≡ suc (m + m) → r.mul (r.mul (power_of r a m) (power_of r a m)) a ≡ power_of r a k
-  power_square_times k m e = ap (λ x. r.mul x a) (sym (power_plus m m)) ∙ ap (power_of r a) (sym e)
 
   -- (a^(q^i))^q = a^(q^(i + 1))
   pub power_size : (q i : ℕ) → power_of r (power_of r a (q ^ i)) q ≡ power_of r a (q ^ (i + 1))
@@ -43,7 +31,7 @@ module _ {E : Type 0} (r : RingOps E) (h : IsRing r) (a : E) (p : IsElem r a) wh
   power_digits q i d positive low =
       let next : i + 1 ≡ suc i = omega arith in
       let pos : 1 ≤ q ^ i = one-le-pow i q positive in
-      ap (λ z. r.mul z (power_of r a (q - d))) (power_times (q ^ i - 1) q) ∙ sym (power_plus ((q ^ i - 1) * q) (q - d))
+      ap (λ z. r.mul z (power_of r a (q - d))) (power_times (q ^ i - 1) q) ∙ sym (power-add r h a ((q ^ i - 1) * q) (q - d) p)
       ∙ ap (power_of r a) (exponent (q ^ i - 1) (q ^ i) (omega arith) ∙ ap (λ x. x - d) (sym (ap (λ k. q ^ k) next ∙ pow-suc q i)))
     where
       exponent : (y x : ℕ) → x ≡ y + 1 → y * q + (q - d) ≡ x * q - d

@@ -104,25 +104,9 @@ module _ (r : RingOps ℕ) (modulus : List ℕ) where
   unfolding stored_ops
   stored_of a e = e
 
-  -- sums and negatives, as code makes them
-  pub sum_made : (x a b : TopElem) (m : ℕ) → m ≡ length modulus - 2 → x ≡ stored r m (λ i. r.add (coeff r a.0 i) (coeff r b.0 i)) → x ≡ (stored_ops r modulus).add a b
-  unfolding stored_ops stored
-  sum_made x a b m is e = e ∙ ap (λ k. stored r k (λ i. r.add (coeff r a.0 i) (coeff r b.0 i))) is
-
-  pub negative_made : (x a : TopElem) (m : ℕ) → m ≡ length modulus - 2 → x ≡ stored r m (λ i. r.neg (coeff r a.0 i)) → x ≡ (stored_ops r modulus).neg a
-  unfolding stored_ops stored
-  negative_made x a m is e = e ∙ ap (λ k. stored r k (λ i. r.neg (coeff r a.0 i))) is
-
-  pub stored_at : (a : TopElem) (m : ℕ) → m ≡ length modulus - 2 → IsElem (stored_ops r modulus) a → IsStored r m a
-  stored_at a m is e = subst (λ k. IsStored r k a) (sym is) (stored_of a e)
-
   pub constant_made : (x : TopElem) (b : ℕ) → x ≡ stored r (length modulus - 2) (constant_at r b) → x ≡ (top_places r (length modulus - 2)).pack (constant_at r b)
   unfolding stored
   constant_made x b e = e
-
-pub one_stored : (r : RingOps ℕ) (modulus : List ℕ) {x : TopElem} {c : ℕ} → x ≡ stored r (length modulus - 2) (constant_at r c) → c ≡ r.one → x ≡ (stored_ops r modulus).one
-unfolding stored stored_ops
-one_stored r modulus is one = is ∙ ap (λ c. stored r (length modulus - 2) (constant_at r c)) one
 
 -- the constant zero is zero
 pub none_is : (r : RingOps ℕ) (d : ℕ) → stored r d (constant_at r r.zero) ≡ stored r d (λ i. r.zero)

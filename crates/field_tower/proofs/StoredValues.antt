@@ -40,9 +40,6 @@ module _ (r : RingOps ℕ) (hb : IsRing r) (commutes : IsCommutative r) (modulus
   pub constant_in : (b : ℕ) → IsElem r b → IsElem (stored_ops r modulus) ((top_places r d).pack (constant_at r b))
   constant_in b e = elem_of r modulus _ (constant_stored b e)
 
-  pub negative_in : (x : TopElem) → IsElem (stored_ops r modulus) x → IsElem (stored_ops r modulus) ((stored_ops r modulus).neg x)
-  negative_in x e = ring.closed.neg_in x e
-
   pub factor_in : (x : TopElem) (b : ℕ) → IsElem (stored_ops r modulus) x → IsElem r b
       → IsElem (stored_ops r modulus) ((stored_ops r modulus).add x ((stored_ops r modulus).neg ((top_places r d).pack (constant_at r b))))
   factor_in x b e c = ring.closed.add_in _ _ e (ring.closed.neg_in _ (constant_in b c))

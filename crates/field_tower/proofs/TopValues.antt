@@ -18,14 +18,6 @@ use Rattle.field_tower.proofs.Stored.{none_is}
 
 -- What the operations of a top field are, as code computes them.
 module _ (t : Top) where
-  pub top-add : (a b : TopElem) → stored (ops_of t.base) (t.n - 1) (λ i. (ops_of t.base).add (coeff (ops_of t.base) a.0 i) (coeff (ops_of t.base) b.0 i)) ≡ (ops_of_top t).add a b
-  unfolding top_ops stored
-  top-add a b = refl
-
-  pub top-neg : (a : TopElem) → stored (ops_of t.base) (t.n - 1) (λ i. (ops_of t.base).neg (coeff (ops_of t.base) a.0 i)) ≡ (ops_of_top t).neg a
-  unfolding top_ops stored
-  top-neg a = refl
-
   pub top-zero : stored (ops_of t.base) (t.n - 1) (constant_at (ops_of t.base) (ops_of t.base).zero) ≡ (ops_of_top t).zero
   unfolding top_ops stored
   top-zero = none_is (ops_of t.base) (t.n - 1)

@@ -71,8 +71,7 @@ fn image<F: Field<Elem = Code>>(
     match map {
         LinearMap::Power => power,
         LinearMap::Difference => {
-            let n = modulus.len() - 1;
-            places::add(field, n, power, places::neg(field, n, x))
+            places::add(field, modulus, power, places::neg(field, modulus, x))
         }
     }
 }

@@ -15,11 +15,10 @@ ghost use Rattle.field_tower.specs.MakeBase.{MakesBase, IsBaseOf, reduced as red
 ghost use Rattle.field_tower.specs.steps.Parts.{IsFaultOf};
 
 use super::accept::find_pair;
-use super::codes::number;
 use super::fault::BaseFault;
 use super::prime::PrimeField;
 use super::size::{is_listed, size};
-use super::tables::{negative_row, product_table, sum_table};
+use super::tables::{code_at, negative_row, product_table, sum_table};
 use residue_field::Code;
 use ring_core::{Field, NoMemory};
 use std::alloc::Global;
@@ -131,7 +130,8 @@ impl BaseField {
     fn product(&self, a: Code, b: Code) -> Code
         requires left { IsElem (ops_of self.now) a }
         requires right { IsElem (ops_of self.now) b }
-        ensures { result ≡ (ops_of self.now).mul a b }
+        ensures value { result ≡ (ops_of self.now).mul a b }
+        ensures elem { IsElem (ops_of self.now) result }
     {
         self.products[a as usize * self.q + b as usize]
     }
@@ -167,13 +167,11 @@ fn code_pair(
     ensures { let k = base_ops prime.now.p (length modulus.now - 2) modulus.now in
         IfOk result (λ o. MatchOption o (HasNoPair k) (λ pair. IsPair k pair.0 pair.1)) }
 {
-    let p = prime.p as usize;
-    let n = modulus.len() - 1;
     let Some((a, b)) = find_pair(alloc, prime, prime.p, modulus)? else {
         return Ok(None);
     };
-    let left = number(p, n, a);
-    let right = number(p, n, b);
+    let left = code_at(prime, modulus, a);
+    let right = code_at(prime, modulus, b);
     Ok(Some((left, right)))
 }
 

@@ -42,9 +42,8 @@ fn less_constant<F: Field<Elem = Code>>(field: &F, modulus: &[Code], x: TopElem,
     ensures { let r = F.ops field.now in let t = stored_ops r modulus.now in
         result ≡ t.add x (t.neg ((top_places r (length modulus.now - 2)).pack (constant_at r c))) }
 {
-    let n = modulus.len() - 1;
-    let negative = places::neg(field, n, places::constant(field, c));
-    places::add(field, n, x, negative)
+    let negative = places::neg(field, modulus, places::constant(field, c));
+    places::add(field, modulus, x, negative)
 }
 
 /// A power of `x`, and `x`, where the power `q` of the nonzero residue `x` is zero.
@@ -61,7 +60,7 @@ pub(crate) fn power_pair<F: Field<Elem = Code>>(
     requires power { let t = stored_ops (F.ops field.now) modulus.now in power_of t x q ≡ t.zero }
     ensures { IsPair (stored_ops (F.ops field.now) modulus.now) result.0 result.1 }
 {
-    let mut power = places::constant(field, field.one());
+    let mut power = places::one(field);
     for _i in 0..q {
         let Some(next) = nonzero_product(field, modulus, power, x) else {
             return (power, x);
@@ -86,7 +85,7 @@ pub(crate) fn factor_pair<F: Field<Elem = Code>>(
     requires power { power_of (stored_ops (F.ops field.now) modulus.now) x q ≡ x }
     ensures { IsPair (stored_ops (F.ops field.now) modulus.now) result.0 result.1 }
 {
-    let mut product = places::constant(field, field.one());
+    let mut product = places::one(field);
     for c in 0..q {
         let factor = less_constant(field, modulus, x, c as Code);
         let Some(next) = nonzero_product(field, modulus, product, factor) else {

@@ -1,11 +1,11 @@
-ghost use Rattle.std.specs.Prelude.{◌≡◌, ℕ, ◌-◌, ◌*◌, ◌^◌, ◌≤◌, ◌<◌, length, drop, cond, nat_eq, true};
+ghost use Rattle.std.specs.Prelude.{◌≡◌, ℕ, ◌-◌, ◌*◌, ◌^◌, ◌≤◌, ◌<◌, List, length, drop, cond, nat_eq, true};
 ghost use Rattle.ring_core.specs.Ring.{IsElem};
 ghost use Rattle.ring_core.specs.Coeffs.{coeff, are_elems, same_lists};
 ghost use Rattle.ring_core.specs.Powers.{power_of};
 ghost use Rattle.residue_field.specs.declared.TheConstants.{WIDTH};
 ghost use Rattle.residue_field.specs.Residue.{constant_at, residue_letter};
 ghost use Rattle.residue_field.specs.TopElem.{are_zeros, top_places};
-ghost use Rattle.field_tower.specs.steps.Places.{IsModulus, IsStored, stored, stored_ops};
+ghost use Rattle.field_tower.specs.steps.Places.{IsModulus, stored, stored_ops};
 
 use super::residues::multiply;
 use residue_field::{Code, TopElem, WIDTH};
@@ -82,30 +82,43 @@ pub(crate) fn residue_of<F: Field<Elem = Code>>(field: &F, list: &[Code]) -> Top
     TopElem(places)
 }
 
-/// The sum of residues modulo a polynomial of degree `n`.
-pub(crate) fn add<F: Field<Elem = Code>>(field: &F, n: usize, a: TopElem, b: TopElem) -> TopElem
-    requires positive { 0 < n }
-    requires room { n ≤ WIDTH }
-    requires left { IsStored (F.ops field.now) (n - 1) a }
-    requires right { IsStored (F.ops field.now) (n - 1) b }
-    ensures { result ≡ stored (F.ops field.now) (n - 1) (λ i. (F.ops field.now).add (coeff (F.ops field.now) a.0 i) (coeff (F.ops field.now) b.0 i)) }
+/// The residue one, modulo a polynomial of any degree.
+pub(crate) fn one<F: Field<Elem = Code>>(field: &F) -> TopElem
+    ensures value { (modulus : List ℕ) → result ≡ (stored_ops (F.ops field.now) modulus).one }
+    ensures elem { (modulus : List ℕ) → IsModulus (F.ops field.now) modulus → IsElem (stored_ops (F.ops field.now) modulus) result }
+{
+    constant(field, field.one())
+}
+
+/// The sum of residues.
+pub(crate) fn add<F: Field<Elem = Code>>(
+    field: &F,
+    modulus: &[Code],
+    a: TopElem,
+    b: TopElem,
+) -> TopElem
+    requires monic { IsModulus (F.ops field.now) modulus.now }
+    requires left { IsElem (stored_ops (F.ops field.now) modulus.now) a }
+    requires right { IsElem (stored_ops (F.ops field.now) modulus.now) b }
+    ensures value { result ≡ (stored_ops (F.ops field.now) modulus.now).add a b }
+    ensures elem { IsElem (stored_ops (F.ops field.now) modulus.now) result }
 {
     let mut places = zeros(field);
-    for i in 0..n {
+    for i in 0..modulus.len() - 1 {
         places[i] = field.add(coeff_at(field, &a.0, i), coeff_at(field, &b.0, i));
     }
     TopElem(places)
 }
 
-/// The negative of a residue modulo a polynomial of degree `n`.
-pub(crate) fn neg<F: Field<Elem = Code>>(field: &F, n: usize, a: TopElem) -> TopElem
-    requires positive { 0 < n }
-    requires room { n ≤ WIDTH }
-    requires elem { IsStored (F.ops field.now) (n - 1) a }
-    ensures { result ≡ stored (F.ops field.now) (n - 1) (λ i. (F.ops field.now).neg (coeff (F.ops field.now) a.0 i)) }
+/// The negative of a residue.
+pub(crate) fn neg<F: Field<Elem = Code>>(field: &F, modulus: &[Code], a: TopElem) -> TopElem
+    requires monic { IsModulus (F.ops field.now) modulus.now }
+    requires elem { IsElem (stored_ops (F.ops field.now) modulus.now) a }
+    ensures value { result ≡ (stored_ops (F.ops field.now) modulus.now).neg a }
+    ensures elem { IsElem (stored_ops (F.ops field.now) modulus.now) result }
 {
     let mut places = zeros(field);
-    for i in 0..n {
+    for i in 0..modulus.len() - 1 {
         places[i] = field.neg(coeff_at(field, &a.0, i));
     }
     TopElem(places)
@@ -143,7 +156,7 @@ pub(crate) fn power<F: Field<Elem = Code>>(
     ensures elem { IsElem (stored_ops (F.ops field.now) modulus.now) result }
 {
     if k == 0 {
-        return constant(field, field.one());
+        return one(field);
     }
     let half = power(field, modulus, a, k / 2);
     let square = mul(field, modulus, half, half);
@@ -171,7 +184,7 @@ pub(crate) fn power_less_two<F: Field<Elem = Code>>(
     ensures elem { IsElem (stored_ops (F.ops field.now) modulus.now) result }
 {
     let digit = power(field, modulus, a, q - 1);
-    let mut result = constant(field, field.one());
+    let mut result = one(field);
     for _i in 0..n - 1 {
         result = mul(field, modulus, power(field, modulus, result, q), digit);
     }

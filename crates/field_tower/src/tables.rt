@@ -1,16 +1,39 @@
-ghost use Rattle.std.specs.Prelude.{◌≡◌, ◌-◌, ◌+◌, ◌*◌, ◌<◌, ◌≤◌, ◌^◌, IfOk, length};
+ghost use Rattle.std.specs.Prelude.{◌≡◌, ℕ, ◌-◌, ◌+◌, ◌*◌, ◌<◌, ◌≤◌, ◌^◌, IfOk, length, slice_index};
+ghost use Rattle.ring_core.specs.Ring.{IsElem};
 ghost use Rattle.field_tower.specs.steps.Tables.{IsRow, IsTable};
 ghost use Rattle.residue_field.specs.Prime.{prime_ops};
+ghost use Rattle.residue_field.specs.Digits.{digit, number as number_of};
 ghost use Rattle.residue_field.specs.Base.{base_ops};
 ghost use Rattle.field_tower.specs.declared.size.TheConstants.{CODES};
-ghost use Rattle.field_tower.specs.steps.Places.{IsModulus};
+ghost use Rattle.field_tower.specs.steps.Places.{IsModulus, stored_ops};
 
 use super::codes::{digits, number};
 use super::places;
 use super::prime::PrimeField;
-use residue_field::Code;
+use residue_field::{Code, TopElem};
 use ring_core::NoMemory;
 use std::alloc::Global;
+
+/// The residue of the code `a`.
+fn residue_at(prime: &PrimeField, modulus: &[Code], a: usize) -> TopElem
+    requires monic { IsModulus (prime_ops prime.now.p) modulus.now }
+    requires small { prime.now.p ^ (length modulus.now - 1) ≤ CODES }
+    requires code { a < prime.now.p ^ (length modulus.now - 1) }
+    ensures elem { IsElem (stored_ops (prime_ops prime.now.p) modulus.now) result }
+    ensures digits { (i : ℕ) → slice_index result.0 i ≡ digit prime.now.p a i }
+{
+    digits(prime.p as usize, modulus.len() - 1, a)
+}
+
+/// The code of a residue.
+pub(crate) fn code_at(prime: &PrimeField, modulus: &[Code], a: TopElem) -> Code
+    requires monic { IsModulus (prime_ops prime.now.p) modulus.now }
+    requires small { prime.now.p ^ (length modulus.now - 1) ≤ CODES }
+    requires elem { IsElem (stored_ops (prime_ops prime.now.p) modulus.now) a }
+    ensures { result ≡ number_of prime.now.p (length modulus.now - 1) (slice_index a.0) }
+{
+    number(prime.p as usize, modulus.len() - 1, a)
+}
 
 /// The sum of the codes `a` and `b`.
 fn code_sum(prime: &PrimeField, modulus: &[Code], a: usize, b: usize) -> Code
@@ -20,13 +43,9 @@ fn code_sum(prime: &PrimeField, modulus: &[Code], a: usize, b: usize) -> Code
     requires right { b < prime.now.p ^ (length modulus.now - 1) }
     ensures { result ≡ (base_ops prime.now.p (length modulus.now - 2) modulus.now).add a b }
 {
-    let p = prime.p as usize;
-    let n = modulus.len() - 1;
-    number(
-        p,
-        n,
-        places::add(prime, n, digits(p, n, a), digits(p, n, b)),
-    )
+    let left = residue_at(prime, modulus, a);
+    let right = residue_at(prime, modulus, b);
+    code_at(prime, modulus, places::add(prime, modulus, left, right))
 }
 
 /// The negative of the code `a`.
@@ -36,9 +55,8 @@ fn code_negative(prime: &PrimeField, modulus: &[Code], a: usize) -> Code
     requires code { a < prime.now.p ^ (length modulus.now - 1) }
     ensures { result ≡ (base_ops prime.now.p (length modulus.now - 2) modulus.now).neg a }
 {
-    let p = prime.p as usize;
-    let n = modulus.len() - 1;
-    number(p, n, places::neg(prime, n, digits(p, n, a)))
+    let residue = residue_at(prime, modulus, a);
+    code_at(prime, modulus, places::neg(prime, modulus, residue))
 }
 
 /// The product of the codes `a` and `b`.
@@ -49,13 +67,9 @@ fn code_product(prime: &PrimeField, modulus: &[Code], a: usize, b: usize) -> Cod
     requires right { b < prime.now.p ^ (length modulus.now - 1) }
     ensures { result ≡ (base_ops prime.now.p (length modulus.now - 2) modulus.now).mul a b }
 {
-    let p = prime.p as usize;
-    let n = modulus.len() - 1;
-    number(
-        p,
-        n,
-        places::mul(prime, modulus, digits(p, n, a), digits(p, n, b)),
-    )
+    let left = residue_at(prime, modulus, a);
+    let right = residue_at(prime, modulus, b);
+    code_at(prime, modulus, places::mul(prime, modulus, left, right))
 }
 
 /// The sums of all pairs of codes.

@@ -176,11 +176,11 @@ impl Field for Tower {
     }
 
     fn add(&self, a: TopElem, b: TopElem) -> TopElem {
-        places::add(&self.base, self.n as usize, a, b)
+        places::add(&self.base, &self.modulus, a, b)
     }
 
     fn neg(&self, a: TopElem) -> TopElem {
-        places::neg(&self.base, self.n as usize, a)
+        places::neg(&self.base, &self.modulus, a)
     }
 
     fn mul(&self, a: TopElem, b: TopElem) -> TopElem {

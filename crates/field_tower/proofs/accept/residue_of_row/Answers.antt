@@ -1,31 +1,18 @@
-use Rattle.std.proofs.Common.{◌≢◌, ◌+◌, ◌-◌, ◌<◌, ◌≤◌, suc, length-set, ◌∙◌, arith}
-use Rattle.linear_algebra.specs.Linear.{entry}
+use Rattle.std.proofs.Common.{◌-◌, ◌<◌, ◌≤◌, arith}
 use Rattle.residue_field.specs.declared.TheConstants.{WIDTH}
-use Rattle.field_tower.proofs.Writes.{written, unwritten}
-use Rattle.field_tower.proofs.Stored.{stored_from}
+use Rattle.field_tower.proofs.FilledPlaces.{filled_none, filled_more, filled_all}
 use Rattle.field_tower.proofs.accept.residue_of_row.Goals as goal
+
+pub loop-j-init : goal.loop-j-init
+loop-j-init g c = filled_none (g.F.Field.ops c.args.field.now) _ c.zeros-list.result (omega arith) c.zeros-list.ensures.values
 
 pub loop-j-preserved : goal.loop-j-preserved
 loop-j-preserved g c =
     let r = g.F.Field.ops c.args.field.now in
-    let rows = c.args.rows.now.rows in
-    let j = c.loop-j.j in
-    let before = c.loop-j.invariant in
-    let width = before.width in
     let room : c.args.n ≤ WIDTH = c.requires.room in
-    record {
-      width = length-set c.loop-j.list j _ ∙ width;
-      done =
-          λ k (l : k < j + 1).
-          written r c.loop-j.list j _ (entry r rows c.args.i) k (omega arith) (c.at.ensures.value r.zero) (λ (d : k ≢ j). before.done k (omega arith));
-      rest = λ k (l : j + 1 ≤ k). let d : k ≢ j = omega arith in unwritten r c.loop-j.list j _ k d (before.rest k (omega arith));
-    }
+    filled_more r _ c.loop-j.list c.loop-j.j _ (omega arith) c.loop-j.invariant (c.at.ensures.value r.zero)
 
 pub returns : goal.returns
 returns g c =
-    let r = g.F.Field.ops c.args.field.now in
-    let n = c.args.n in
-    let positive : 0 < n = c.requires.positive in
-    let last = c.loop-j.invariant in
-    stored_from r (n - 1) c.loop-j.list (entry r c.args.rows.now.rows c.args.i) last.width
-    (λ j (l : j < suc (n - 1)). last.done j (omega arith)) (λ j (l : suc (n - 1) ≤ j). last.rest j (omega arith))
+    let positive : 0 < c.args.n = c.requires.positive in
+    filled_all (g.F.Field.ops c.args.field.now) _ c.loop-j.list c.loop-j.j (c.args.n - 1) (omega arith) c.loop-j.invariant

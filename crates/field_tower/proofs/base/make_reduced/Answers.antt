@@ -1,40 +1,26 @@
-use Rattle.std.proofs.Common.{length, None, MatchOption, ◌≡◌, ◌-◌, ◌≤◌, sym, subst}
+use Rattle.std.proofs.Common.{length, None, MatchOption, ◌≡◌, ◌-◌, subst}
 use Rattle.finite_ring.specs.Finite.{HasNoPair}
 use Rattle.field_tower.specs.steps.Tables.{IsRow, IsTable}
-use Rattle.residue_field.specs.Prime.{prime_ops}
 use Rattle.residue_field.specs.Base.{IsBase, base_ops}
-use Rattle.field_tower.specs.steps.Places.{IsModulus}
 use Rattle.field_tower.specs.Pairs.{IsPair}
 use Rattle.field_tower.proofs.BaseTables.{modulus_of, moved}
 use Rattle.field_tower.proofs.base.make_reduced.Goals as goal
 
 pub code_pair-requires-clause-monic : goal.code_pair-requires-clause-monic
 code_pair-requires-clause-monic c =
-    let p = c.args.prime.p in
-    let small = subst (λ n. n ≤ _) c.requires.count c.requires.small in
-    subst (IsModulus (prime_ops p)) (sym c.deref.ensures.value)
-    (modulus_of p c.args.s c.args.modulus.items c.args.prime.listed c.requires.degree small c.requires.members c.requires.elems c.requires.monic)
+    modulus_of c.args.prime.p c.args.s _ _ _ c.deref.ensures.value c.args.prime.listed c.requires.degree c.requires.count c.requires.small c.requires.members c.requires.elems c.requires.monic
 
 pub product_table-requires-clause-monic : goal.product_table-requires-clause-monic
 product_table-requires-clause-monic c =
-    let p = c.args.prime.p in
-    let small = subst (λ n. n ≤ _) c.requires.count c.requires.small in
-    subst (IsModulus (prime_ops p)) (sym c.deref-2.ensures.value)
-    (modulus_of p c.args.s c.args.modulus.items c.args.prime.listed c.requires.degree small c.requires.members c.requires.elems c.requires.monic)
+    modulus_of c.args.prime.p c.args.s _ _ _ c.deref-2.ensures.value c.args.prime.listed c.requires.degree c.requires.count c.requires.small c.requires.members c.requires.elems c.requires.monic
 
 pub sum_table-requires-clause-monic : goal.sum_table-requires-clause-monic
 sum_table-requires-clause-monic c =
-    let p = c.args.prime.p in
-    let small = subst (λ n. n ≤ _) c.requires.count c.requires.small in
-    subst (IsModulus (prime_ops p)) (sym c.deref-3.ensures.value)
-    (modulus_of p c.args.s c.args.modulus.items c.args.prime.listed c.requires.degree small c.requires.members c.requires.elems c.requires.monic)
+    modulus_of c.args.prime.p c.args.s _ _ _ c.deref-3.ensures.value c.args.prime.listed c.requires.degree c.requires.count c.requires.small c.requires.members c.requires.elems c.requires.monic
 
 pub negative_row-requires-clause-monic : goal.negative_row-requires-clause-monic
 negative_row-requires-clause-monic c =
-    let p = c.args.prime.p in
-    let small = subst (λ n. n ≤ _) c.requires.count c.requires.small in
-    subst (IsModulus (prime_ops p)) (sym c.deref-4.ensures.value)
-    (modulus_of p c.args.s c.args.modulus.items c.args.prime.listed c.requires.degree small c.requires.members c.requires.elems c.requires.monic)
+    modulus_of c.args.prime.p c.args.s _ _ _ c.deref-4.ensures.value c.args.prime.listed c.requires.degree c.requires.count c.requires.small c.requires.members c.requires.elems c.requires.monic
 
 pub invariant_of-result : goal.invariant_of-result
 invariant_of-result c =

@@ -4,7 +4,6 @@ use Rattle.finite_ring.specs.Finite.{root_product}
 use Rattle.residue_field.specs.Residue.{constant_at}
 use Rattle.residue_field.specs.TopElem.{top_places}
 use Rattle.field_tower.specs.steps.Places.{stored_ops}
-use Rattle.field_tower.proofs.Stored.{one_stored, one_in}
 use Rattle.field_tower.proofs.StoredValues.{factor_in}
 use Rattle.field_tower.proofs.ConstantValues.{code_elem}
 use Rattle.field_tower.proofs.PairValues.{one_nonzero, factor_nonzero, all_factors}
@@ -15,9 +14,9 @@ loop-c-init g c =
     let r = g.F.Field.ops c.args.field.now in
     let codes = c.requires.constants in
     let modulus = c.args.modulus.now in
-    let one = one_stored r modulus (c.constant-product.ensures (length modulus - 2)) c.one.ensures.value in
+    let one = c.one-product.ensures.value modulus in
     record {
-      elem = one_in r codes.ring modulus c.requires.monic codes.commutes one;
+      elem = c.one-product.ensures.elem modulus c.requires.monic;
       value = one;
       nonzero = λ e. one_nonzero r c.args.q codes modulus c.requires.monic (sym one ∙ e);
     }

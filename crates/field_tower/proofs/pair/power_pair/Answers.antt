@@ -1,5 +1,4 @@
-use Rattle.std.proofs.Common.{◌-◌, length, sym, ◌∙◌}
-use Rattle.field_tower.proofs.Stored.{one_stored, one_in}
+use Rattle.std.proofs.Common.{sym, ◌∙◌}
 use Rattle.field_tower.proofs.PairValues.{one_nonzero, zero_is_low}
 use Rattle.field_tower.proofs.pair.power_pair.Goals as goal
 
@@ -8,9 +7,9 @@ loop-i-init g c =
     let r = g.F.Field.ops c.args.field.now in
     let codes = c.requires.constants in
     let modulus = c.args.modulus.now in
-    let one = one_stored r modulus (c.constant-power.ensures (length modulus - 2)) c.one.ensures.value in
+    let one = c.one-power.ensures.value modulus in
     record {
-      elem = one_in r codes.ring modulus c.requires.monic codes.commutes one;
+      elem = c.one-power.ensures.elem modulus c.requires.monic;
       value = one;
       nonzero = λ e. one_nonzero r c.args.q codes modulus c.requires.monic (sym one ∙ e);
     }

@@ -1,19 +1,16 @@
-use Rattle.std.proofs.Common.{◌≡◌, ◌+◌, ◌-◌, ◌^◌, length, ap, ap₂, ◌∙◌, arith}
+use Rattle.std.proofs.Common.{◌≡◌, ◌+◌, ◌-◌, ◌^◌, ap, ap₂, ◌∙◌, arith}
 use Rattle.ring_core.specs.Powers.{power_of}
 use Rattle.field_tower.specs.steps.Places.{stored_ops}
-use Rattle.field_tower.proofs.Stored.{stored_ring, one_stored, one_in}
+use Rattle.field_tower.proofs.Stored.{stored_ring}
 use Rattle.field_tower.proofs.PowerSteps.{power_empty, power_digits}
 use Rattle.field_tower.proofs.places.power_less_two.Goals as goal
 
 pub loop-i-init : goal.loop-i-init
 loop-i-init g c =
-    let r = g.F.Field.ops c.args.field.now in
-    let field = g.met.F.Field.laws c.args.field.now in
     let modulus = c.args.modulus.now in
-    let is = one_stored r modulus (c.constant-result.ensures (length modulus - 2)) c.one.ensures.value in
     record {
-      elem = one_in r field.ring modulus c.requires.monic field.mul_comm is;
-      value = is ∙ power_empty (stored_ops r modulus) c.args.a c.args.q;
+      elem = c.one-result.ensures.elem modulus c.requires.monic;
+      value = c.one-result.ensures.value modulus ∙ power_empty (stored_ops (g.F.Field.ops c.args.field.now) modulus) c.args.a c.args.q;
     }
 
 pub loop-i-preserved : goal.loop-i-preserved

@@ -1,27 +1,17 @@
-use Rattle.std.proofs.Common.{◌≢◌, ◌+◌, ◌-◌, ◌<◌, ◌≤◌, suc, length, length-set, ◌∙◌, arith}
-use Rattle.ring_core.specs.Coeffs.{coeff}
-use Rattle.field_tower.proofs.Writes.{written, unwritten}
-use Rattle.field_tower.proofs.Stored.{stored_from}
+use Rattle.std.proofs.Common.{◌-◌, ◌<◌, ◌≤◌, length, arith}
+use Rattle.residue_field.specs.declared.TheConstants.{WIDTH}
+use Rattle.field_tower.proofs.FilledPlaces.{filled_none, filled_more, filled_all}
 use Rattle.field_tower.proofs.places.residue_of.Goals as goal
+
+pub loop-i-init : goal.loop-i-init
+loop-i-init g c = filled_none (g.F.Field.ops c.args.field.now) _ c.zeros-places.result (omega arith) c.zeros-places.ensures.values
 
 pub loop-i-preserved : goal.loop-i-preserved
 loop-i-preserved g c =
-    let r = g.F.Field.ops c.args.field.now in
-    let i = c.loop-i.i in
-    let before = c.loop-i.invariant in
-    let width = before.width in
-    record {
-      width = length-set c.loop-i.places i _ ∙ width;
-      done =
-          λ j (l : j < i + 1).
-          written r c.loop-i.places i _ (coeff r c.args.list.now) j (omega arith) (c.coeff_at.ensures.value) (λ (d : j ≢ i). before.done j (omega arith));
-      rest = λ j (l : i + 1 ≤ j). let d : j ≢ i = omega arith in unwritten r c.loop-i.places i _ j d (before.rest j (omega arith));
-    }
+    let room : length c.args.list.now ≤ WIDTH = c.requires.room in
+    filled_more (g.F.Field.ops c.args.field.now) _ c.loop-i.places c.loop-i.i _ (omega arith) c.loop-i.invariant c.coeff_at.ensures.value
 
 pub returns : goal.returns
 returns g c =
-    let r = g.F.Field.ops c.args.field.now in
-    let n = length c.args.list.now in
-    let last = c.loop-i.invariant in
-    stored_from r (n - 1) c.loop-i.places (coeff r c.args.list.now) last.width
-    (λ j (l : j < suc (n - 1)). last.done j (omega arith)) (λ j (l : suc (n - 1) ≤ j). last.rest j (omega arith))
+    let some : 0 < length c.args.list.now = c.requires.some in
+    filled_all (g.F.Field.ops c.args.field.now) _ c.loop-i.places c.loop-i.i (length c.args.list.now - 1) (omega arith) c.loop-i.invariant

@@ -1,10 +1,10 @@
-use Rattle.std.proofs.Common.{◌≡◌, ◌+◌, ◌-◌, ◌/◌, suc, sym, ap, ap₂, subst, ◌∙◌, arith}
+use Rattle.std.proofs.Common.{◌≡◌, ◌-◌, ◌%◌, sym, ap, ap₂, subst, ◌∙◌, arith}
 use Rattle.ring_core.specs.Ring.{IsElem}
 use Rattle.ring_core.specs.Powers.{power_of}
+use Rattle.ring_core.proofs.PowerLaws.{power-even, power-odd}
 use Rattle.residue_field.specs.Base.{ops_of}
 use Rattle.residue_field.proofs.BaseLaws.{base_ring}
 use Rattle.field_tower.proofs.BaseValues.{base-one}
-use Rattle.field_tower.proofs.PowerSteps.{power_square, power_square_times}
 use Rattle.field_tower.proofs.base.BaseField.+power.Goals as goal
 
 pub returns-then-k-eq0-clause-value : goal.returns-then-k-eq0-clause-value
@@ -17,38 +17,16 @@ returns-then-k-eq0-clause-elem t c =
     let k = c.args.self.now in
     subst (IsElem (ops_of k)) (base-one k.p (k.s - 1) k.modulus) (base_ring k).closed.one_in
 
-pub product-requires-clause-left : goal.product-requires-clause-left
-product-requires-clause-left t c =
-    let k = c.args.self.now in
-    let half = c.power-half.ensures.elem in
-    subst (IsElem (ops_of k)) (sym c.product-square.ensures) ((base_ring k).closed.mul_in _ _ half half)
-
 pub returns-then-k-eq0-2-clause-value : goal.returns-then-k-eq0-2-clause-value
 returns-then-k-eq0-2-clause-value t c =
     let k = c.args.self.now in
-    let e = c.args.k in
-    let half : e ≡ e / 2 + e / 2 = omega arith in
-    c.product-square.ensures ∙ ap₂ (ops_of k).mul c.power-half.ensures.value c.power-half.ensures.value
-    ∙ power_square (ops_of k) (base_ring k) c.args.a c.requires e (e / 2) half
-
-pub returns-then-k-eq0-2-clause-elem : goal.returns-then-k-eq0-2-clause-elem
-returns-then-k-eq0-2-clause-elem t c =
-    let k = c.args.self.now in
-    let half = c.power-half.ensures.elem in
-    subst (IsElem (ops_of k)) (sym c.product-square.ensures) ((base_ring k).closed.mul_in _ _ half half)
+    c.product-square.ensures.value ∙ ap₂ (ops_of k).mul c.power-half.ensures.value c.power-half.ensures.value
+    ∙ sym (power-even (ops_of k) (base_ring k) c.args.a c.args.k c.requires c.if-k-eq0-2.true)
 
 pub returns-else-k-eq0-2-clause-value : goal.returns-else-k-eq0-2-clause-value
 returns-else-k-eq0-2-clause-value t c =
     let k = c.args.self.now in
-    let e = c.args.k in
-    let half : e ≡ suc (e / 2 + e / 2) = omega arith in
-    c.product.ensures
-    ∙ ap (λ x. (ops_of k).mul x c.args.a) (c.product-square.ensures ∙ ap₂ (ops_of k).mul c.power-half.ensures.value c.power-half.ensures.value)
-    ∙ power_square_times (ops_of k) (base_ring k) c.args.a c.requires e (e / 2) half
-
-pub returns-else-k-eq0-2-clause-elem : goal.returns-else-k-eq0-2-clause-elem
-returns-else-k-eq0-2-clause-elem t c =
-    let k = c.args.self.now in
-    let half = c.power-half.ensures.elem in
-    let square = subst (IsElem (ops_of k)) (sym c.product-square.ensures) ((base_ring k).closed.mul_in _ _ half half) in
-    subst (IsElem (ops_of k)) (sym c.product.ensures) ((base_ring k).closed.mul_in _ _ square c.requires)
+    let odd : c.args.k % 2 ≡ 1 = omega arith in
+    c.product.ensures.value
+    ∙ ap (λ x. (ops_of k).mul x c.args.a) (c.product-square.ensures.value ∙ ap₂ (ops_of k).mul c.power-half.ensures.value c.power-half.ensures.value)
+    ∙ sym (power-odd (ops_of k) (base_ring k) c.args.a c.args.k c.requires odd)

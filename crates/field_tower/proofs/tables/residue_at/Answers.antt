@@ -1,0 +1,15 @@
+use Rattle.std.proofs.Common.{◌≡◌, length, arith}
+use Rattle.residue_field.specs.declared.TheConstants.{WIDTH}
+use Rattle.field_tower.proofs.CodeDigits.{digits_are, digits_stored}
+use Rattle.field_tower.proofs.tables.residue_at.Goals as goal
+
+pub returns-clause-digits : goal.returns-clause-digits
+returns-clause-digits c =
+    let prime = c.args.prime.now in
+    digits_are prime.p prime.listed c.args.modulus.now c.requires.monic c.digits.result c.args.a c.requires.code c.digits.ensures.values c.digits.ensures.past
+
+pub returns-clause-elem : goal.returns-clause-elem
+returns-clause-elem c =
+    let prime = c.args.prime.now in
+    let width : length c.digits.result.0 ≡ WIDTH = omega arith in
+    digits_stored prime.p prime.listed c.args.modulus.now c.requires.monic c.digits.result c.args.a width (returns-clause-digits c) c.digits.ensures.past
