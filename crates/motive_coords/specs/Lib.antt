@@ -1,0 +1,3 @@
+pub mod Motive
+pub mod OverT
+pub mod steps
