@@ -1,0 +1,41 @@
+ghost use Rattle.std.specs.Prelude.{◌≡◌, ℕ, ◌<◌, IfOk, MatchOption, length, true};
+ghost use Rattle.ring_core.specs.Coeffs.{coeff, are_elems};
+ghost use Rattle.linear_algebra.specs.Linear.{row_at};
+ghost use Rattle.drinfeld_mod.specs.Module.{IsModule, constant_of};
+ghost use Rattle.isomorphism.specs.Isomorphism.{IsFirstIsomorphism, HasNoIsomorphism};
+
+use drinfeld_mod::Module;
+use hom_space::bounded;
+use ore_poly::Ore;
+use ring_core::lists::coeff_at;
+use ring_core::{E, Field, FrobField, NoMemory};
+use std::alloc::Global;
+
+/// The constant coefficient of the first member of the list; None exactly where it has no members.
+fn first_constant<K: Field>(k: &K, list: &[Ore<E<K>>]) -> Option<E<K>>
+    requires { (i : ℕ) → i < length list.now → are_elems (K.ops k.now) (row_at list.now i) ≡ true }
+    ensures { MatchOption result (length list.now ≡ 0) (λ c. (0 < length list.now) × (c ≡ coeff (K.ops k.now) (row_at list.now 0) 0)) }
+{
+    if list.len() == 0 {
+        return None;
+    }
+    Some(coeff_at(k, list[0].as_slice(), 0))
+}
+
+/// A constant of the field that is an isomorphism from `phi` to `psi`, two modules with the same constant: the first
+/// member of their bounded list for the degree 0. None exactly where no constant but zero is a homomorphism.
+pub fn isomorphic<K: FrobField>(
+    alloc: Global,
+    k: &K,
+    phi: &Module<E<K>>,
+    psi: &Module<E<K>>,
+) -> Result<Option<E<K>>, NoMemory>
+    requires source { IsModule (K.ops k.now) phi.now }
+    requires target { IsModule (K.ops k.now) psi.now }
+    requires constants { constant_of (K.ops k.now) phi.now ≡ constant_of (K.ops k.now) psi.now }
+    ensures { let r = K.ops k.now in let f = K.frob_ops k.now in
+        IfOk result (λ o. MatchOption o (HasNoIsomorphism r f phi.now psi.now) (IsFirstIsomorphism r (K.Base.ops (K.base_of k.now)) f phi.now psi.now)) }
+{
+    let list = bounded(alloc, k, phi, psi, 0)?;
+    Ok(first_constant(k, &list))
+}
