@@ -2,6 +2,7 @@
 ghost use Rattle.std.specs.Prelude.{◌≡◌, ℕ, List};
 ghost use Rattle.drinfeld_mod.specs.Module.{IsModule};
 ghost use Rattle.hom_space.specs.Bounded.{IsBoundedList};
+ghost use Rattle.hom_space.specs.Full.{IsFullList};
 
 use ring_core::FrobField;
 
@@ -9,4 +10,10 @@ use ring_core::FrobField;
 pub fn one_bounded_list<K: FrobField>()
     ensures { (k : K) (phi psi : List K.Elem) (d : ℕ) (a b : List (List K.Elem)) → let r = K.ops k in let base = K.Base.ops (K.base_of k) in let f = K.frob_ops k in
         IsModule r phi → IsModule r psi → IsBoundedList r base f phi psi d a → IsBoundedList r base f phi psi d b → a ≡ b }
+{}
+
+/// Two modules have one full list.
+pub fn one_full_list<K: FrobField>()
+    ensures { (k : K) (phi psi : List K.Elem) (a b : List (List K.Elem)) → let r = K.ops k in let base = K.Base.ops (K.base_of k) in let f = K.frob_ops k in
+        IsModule r phi → IsModule r psi → IsFullList r base f phi psi a → IsFullList r base f phi psi b → a ≡ b }
 {}

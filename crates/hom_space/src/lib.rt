@@ -5,5 +5,7 @@ mod bounded_list;
 pub mod laws;
 mod reading;
 mod system;
+mod whole;
 
 pub use bounded_list::bounded;
+pub use whole::full;

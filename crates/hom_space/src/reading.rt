@@ -10,7 +10,7 @@ use ring_core::{B, E, Field, FrobField, NoMemory};
 use std::alloc::Global;
 
 /// Row `i` as a list.
-fn row_list<F: Field>(
+pub(super) fn row_list<F: Field>(
     alloc: Global,
     f: &F,
     rows: &Rows<E<F>>,

@@ -1,1 +1,2 @@
 pub mod Isomorphism
+pub mod Isogeny

@@ -1,6 +1,8 @@
-//! Whether two Drinfeld modules are isomorphic over their field.
+//! Whether two Drinfeld modules are isomorphic or isogenous over their field, and by which homomorphism.
 #![tactic(auto)]
 
 mod constant;
+mod isogeny;
 
 pub use constant::isomorphic;
+pub use isogeny::isogenous;
