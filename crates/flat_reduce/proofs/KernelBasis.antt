@@ -15,8 +15,8 @@ use Rattle.flat_modules.specs.Flat.{are_flat, unit_at, times_rows, zero_rows, Is
 use Rattle.flat_modules.proofs.Lists.{flat_at, flat_in}
 use Rattle.flat_modules.proofs.Shift.{powers}
 use Rattle.flat_modules.proofs.Product.{combine_more}
-use Rattle.flat_reduce.specs.Turns.{Turns}
-use Rattle.flat_reduce.specs.Settled.{IsUnsettled}
+use Rattle.flat_reduce.specs.steps.Turns.{Turns}
+use Rattle.flat_reduce.specs.steps.Settled.{IsUnsettled}
 use Rattle.flat_reduce.proofs.Reduced.{HasTransform, after_turns, start, live, inside, settled_places}
 use Rattle.flat_reduce.proofs.Pushed.{push_low, push_last, flat_push}
 use Rattle.flat_reduce.proofs.KernelRows.{times_value, only_rows}

@@ -7,7 +7,7 @@ use Rattle.ring_core.specs.Coeffs.{coeff, is_canonical, first_values}
 use Rattle.linear_algebra.specs.Linear.{row_at}
 use Rattle.linear_algebra.proofs.Sums.{same_or_other}
 use Rattle.flat_modules.specs.Flat.{are_flat, unit_at}
-use Rattle.flat_reduce.specs.Settled.{slot_of}
+use Rattle.flat_reduce.specs.steps.Settled.{slot_of}
 use Rattle.flat_reduce.proofs.Settling.{none_not_some}
 
 -- no slot is taken

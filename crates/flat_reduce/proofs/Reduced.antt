@@ -14,8 +14,8 @@ use Rattle.flat_modules.proofs.Lists.{flat_at, row_past, shift_value}
 use Rattle.flat_modules.proofs.Shift.{shift}
 use Rattle.flat_modules.proofs.Places.{HasPlaces}
 use Rattle.flat_modules.proofs.Matrix.{Transform, row_added, turn_transform, transform_same, start_transform}
-use Rattle.flat_reduce.specs.Turns.{IsRowAdded, IsTurn, Turns, none, turn}
-use Rattle.flat_reduce.specs.Settled.{IsUnsettled, slot_of}
+use Rattle.flat_reduce.specs.steps.Turns.{IsRowAdded, IsTurn, Turns, none, turn}
+use Rattle.flat_reduce.specs.steps.Settled.{IsUnsettled, slot_of}
 use Rattle.flat_reduce.proofs.Settling.{some_same}
 
 module _ {E : Type 0} (r : RingOps E) (h : IsRing r) where

@@ -16,8 +16,8 @@ use Rattle.flat_modules.proofs.Shift.{powers}
 use Rattle.flat_modules.proofs.Product.{combine_more}
 use Rattle.flat_modules.proofs.Matrix.{times_same}
 use Rattle.flat_modules.proofs.Columns.{across, column_added, unit_across}
-use Rattle.flat_reduce.specs.Turns.{IsTurn, Turns, none, turn}
-use Rattle.flat_reduce.specs.Settled.{slot_of, IsUnsettled}
+use Rattle.flat_reduce.specs.steps.Turns.{IsTurn, Turns, none, turn}
+use Rattle.flat_reduce.specs.steps.Settled.{slot_of, IsUnsettled}
 use Rattle.flat_reduce.proofs.Settling.{some_same}
 use Rattle.flat_reduce.proofs.Reduced.{HasTransform, added_in, added_is, after_turn, after_turns, start, unit_value}
 use Rattle.flat_reduce.proofs.KernelRows.{times_value, row_first, flat_first}

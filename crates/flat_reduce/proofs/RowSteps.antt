@@ -11,7 +11,7 @@ use Rattle.ring_core.proofs.Coefficients.{coeff_past}
 use Rattle.ring_core.proofs.Degrees.{top_nonzero}
 use Rattle.linear_algebra.specs.Linear.{row_at, entry}
 use Rattle.flat_modules.proofs.Lists.{flat_at}
-use Rattle.flat_reduce.specs.Turns.{IsRowAdded, IsTurn}
+use Rattle.flat_reduce.specs.steps.Turns.{IsRowAdded, IsTurn}
 use Rattle.linear_algebra.proofs.Sums.{by_bool, same_or_other}
 use Rattle.flat_modules.specs.Flat.{are_flat, shifted}
 

@@ -8,9 +8,9 @@ use Rattle.linear_algebra.specs.Linear.{row_at}
 use Rattle.linear_algebra.proofs.Sums.{same_or_other}
 use Rattle.flat_modules.specs.Flat.{are_flat, lead_at}
 use Rattle.flat_modules.proofs.Lists.{flat_at}
-use Rattle.flat_reduce.specs.Settled.{slot_of}
-use Rattle.flat_reduce.specs.Turns.{IsRowAdded, IsTurn, Turns, none, turn}
-use Rattle.flat_reduce.specs.Settled.{total_len, IsNamed, IsUnsettled}
+use Rattle.flat_reduce.specs.steps.Settled.{slot_of}
+use Rattle.flat_reduce.specs.steps.Turns.{IsRowAdded, IsTurn, Turns, none, turn}
+use Rattle.flat_reduce.specs.steps.Settled.{total_len, IsNamed, IsUnsettled}
 
 pub set_here : (slot : List (Option ℕ)) (j : ℕ) (x : Option ℕ) → j < length slot → slot_of (set slot j x) j ≡ x
 set_here [] j x l = absurd (omega arith)

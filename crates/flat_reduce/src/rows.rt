@@ -5,7 +5,7 @@ ghost use Rattle.ring_core.specs.Ring.{IsElem};
 ghost use Rattle.ring_core.specs.Coeffs.{coeff, are_elems, is_canonical};
 ghost use Rattle.linear_algebra.specs.Linear.{row_at};
 ghost use Rattle.flat_modules.specs.Flat.{are_flat, shifted};
-ghost use Rattle.flat_reduce.specs.Turns.{IsRowAdded};
+ghost use Rattle.flat_reduce.specs.steps.Turns.{IsRowAdded};
 
 use fq_poly::Poly;
 use ring_core::lists::trimmed;

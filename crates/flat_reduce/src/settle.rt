@@ -4,8 +4,8 @@
 ghost use Rattle.std.specs.Prelude.{◌≡◌, ◌≢◌, ◌+◌, ◌-◌, ◌%◌, ◌<◌, ◌≤◌, ℕ, true, [], Some, length, IfOk};
 ghost use Rattle.linear_algebra.specs.Linear.{row_at};
 ghost use Rattle.flat_modules.specs.Flat.{are_flat, lead_at};
-ghost use Rattle.flat_reduce.specs.Settled.{slot_of, IsUnsettled, total_len};
-ghost use Rattle.flat_reduce.specs.Turns.{Turns};
+ghost use Rattle.flat_reduce.specs.steps.Settled.{slot_of, IsUnsettled, total_len};
+ghost use Rattle.flat_reduce.specs.steps.Turns.{Turns};
 
 use super::turn::turn;
 use fq_poly::Poly;

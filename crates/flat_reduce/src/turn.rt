@@ -3,7 +3,7 @@
 ghost use Rattle.std.specs.Prelude.{◌≡◌, ◌≢◌, ◌+◌, ◌-◌, ◌%◌, ◌<◌, ◌≤◌, ℕ, true, [], length, IfOk};
 ghost use Rattle.linear_algebra.specs.Linear.{row_at};
 ghost use Rattle.flat_modules.specs.Flat.{are_flat, lead_at};
-ghost use Rattle.flat_reduce.specs.Turns.{IsTurn};
+ghost use Rattle.flat_reduce.specs.steps.Turns.{IsTurn};
 
 use super::rows::add_row;
 use fq_poly::Poly;

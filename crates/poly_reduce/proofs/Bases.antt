@@ -1,12 +1,11 @@
 -- From reductions and bases of flat rows to those of the rows of polynomials that stand for them.
 use Rattle.std.proofs.Common.{◌≡◌, ℕ, zero, suc, ◌+◌, ◌-◌, ◌*◌, ◌/◌, ◌%◌, ◌<◌, ◌≤◌, inl, inr, true, Option, List, [], ◌∷◌, length, cond, nat_eq, nat_lt, refl, sym, ◌∙◌, ap, subst, arith, ext_get_or, eq-eqb, ne_eqb, ltb-true, ltb-false}
 use Rattle.std.proofs.Math.Nat.{mod-lt, mul-le-mul_right}
-use Rattle.std.proofs.lemmas.Bool.{and_from}
 use Rattle.std.proofs.lemmas.Nat.{div-add-mod', div-mul-add, mod-mul-add}
 use Rattle.ring_core.specs.Ring.{RingOps, IsRing}
 use Rattle.ring_core.specs.Field.{IsField}
 use Rattle.ring_core.specs.Coeffs.{coeff, are_elems, is_canonical, first_values}
-use Rattle.ring_core.proofs.Coefficients.{coeff_past}
+use Rattle.ring_core.proofs.Coefficients.{coeff_past, elems-first_values}
 use Rattle.ring_core.proofs.ListRing.{poly_ring}
 use Rattle.ring_core.proofs.FirstValues.{length-first_values, at-first_values}
 use Rattle.linear_algebra.specs.Linear.{row_at, entry, is_row, are_rows}
@@ -18,12 +17,9 @@ use Rattle.flat_modules.proofs.Lists.{flat_at}
 use Rattle.flat_reduce.proofs.KernelRows.{row_first}
 use Rattle.flat_reduce.proofs.RowSteps.{length_by_zeros}
 use Rattle.poly_reduce.specs.Rows.{Rows}
-use Rattle.poly_reduce.specs.Matrices.{row_times, product, identity, zero_row, member, StandFor, IsLead, IsMatrix, IsReduced, IsRelationRow, IsOnlyProduct, IsRowBasis}
+use Rattle.poly_reduce.specs.Matrices.{row_times, product, identity, zero_row, member, StandFor, IsLead, IsMatrix, IsRowReduction, IsRelationRow, IsOnlyProduct, IsRowBasis}
+use Rattle.poly_reduce.proofs.Stands.{row_from}
 use Rattle.poly_reduce.proofs.Views.{polys_flat, flat_polys, stand_at, to_combination, from_combination, times_combination, flat_exists}
-
--- as many polynomials as a row has entries
-pub row_from : {X : Type 0} (r : RingOps X) (w : ℕ) (x : List X) → length x ≡ w → are_elems r x ≡ true → is_row r w x ≡ true
-row_from r w x len e = and_from _ _ (eq-eqb (length x) w len) e
 
 module _ {E : Type 0} (r : RingOps E) (inv : E → Option E) (field : IsField r inv) where
   abbrev ring : IsRing r
@@ -84,11 +80,7 @@ module _ {E : Type 0} (r : RingOps E) (inv : E → Option E) (field : IsField r 
   unit_rows_in n k = rows_by_places p n _ (λ i l.
       let count = length-first_values k (λ i. first_values n (unit_at p i)) in
       ap (is_row p n) (row_first k (λ i. first_values n (unit_at p i)) i (omega (arith, l, count)))
-      ∙ row_from p n (first_values n (unit_at p i)) (length-first_values n (unit_at p i)) (polys_in n (λ j. unit_at p i j) (λ j. unit_canonical i j)))
-    where
-      polys_in : (n : ℕ) (f : ℕ → List E) → ((j : ℕ) → is_canonical r (f j) ≡ true) → are_elems p (first_values n f) ≡ true
-      polys_in zero f h = refl
-      polys_in (suc n) f h = and_from _ _ (h 0) (polys_in n (λ j. f (suc j)) (λ j. h (suc j)))
+      ∙ row_from p n (first_values n (unit_at p i)) (length-first_values n (unit_at p i)) (elems-first_values p n (unit_at p i) (λ j _. unit_canonical i j)))
 
   -- the lead of a row is that of its flat row
   pub lead_is : (w s : ℕ) (x : List (List E)) (u : List E) → is_canonical r u ≡ true → ((t : ℕ) → coeff r u t ≡ member r w x t) → IsLead r w x s → length u ≡ s + 1
@@ -98,12 +90,27 @@ module _ {E : Type 0} (r : RingOps E) (inv : E → Option E) (field : IsField r 
       (λ b. let l = ltb-true s (length u) b in omega (arith, l, few))
       (λ b. let l : length u ≤ s = ltb-false s (length u) b in absurd (h.nonzero (sym (is s) ∙ coeff_past r u s l)))
 
+  module _ (k : ℕ) (posk : 0 < k) (rows : List (List (List E))) (flats : List (List E)) (sr : StandFor r k rows flats) where
+    -- exactly one combination of the flat rows is exactly one product
+    pub only_from : (x : List (List E)) (u : List E) → is_row p k x ≡ true → ((t : ℕ) → coeff r u t ≡ member r k x t) → IsOnlyCombination r k flats u → IsOnlyProduct p k rows x
+    only_from x u xr is h =
+        let count = sr.count in
+        let polys = flat_polys r h.by h.polys in
+        record {
+          by = h.by;
+          shape = row_from p (length rows) h.by (h.len ∙ count) polys;
+          is = from_combination r ring k posk rows flats sr x h.by polys xr (λ t. sym (is t) ∙ h.is t);
+          only = λ other shape e.
+              let inside = row_elems p (length rows) other shape in
+              h.only other (row_len p (length rows) other shape ∙ sym count) (polys_flat r other inside) (λ t. is t ∙ to_combination r ring k posk rows flats sr x other inside e t);
+        }
+
   module _ (w : ℕ) (posw : 0 < w) (m : Rows (List (List E))) (width : m.width ≡ w) (flat : List (List E)) (s : StandFor r w m.rows flat) (posn : 0 < length flat) where
     abbrev n : ℕ
     n = length flat
 
     pub reduced_from : (left back image : Rows (List (List E))) (flat_left flat_back flat_image : List (List E)) → left.width ≡ n → back.width ≡ n → image.width ≡ w
-        → StandFor r n left.rows flat_left → StandFor r n back.rows flat_back → StandFor r w image.rows flat_image → IsReduction r w flat flat_left flat_back flat_image → IsReduced r m left back image
+        → StandFor r n left.rows flat_left → StandFor r n back.rows flat_back → StandFor r w image.rows flat_image → IsReduction r w flat flat_left flat_back flat_image → IsRowReduction r m left back image
     reduced_from left back image flat_left flat_back flat_image wl wb wi sl sb si h =
         let many = s.count in
         let ll = sl.count in
@@ -149,33 +156,14 @@ module _ {E : Type 0} (r : RingOps E) (inv : E → Option E) (field : IsField r 
     relation_from : (c : List (List E)) (u : List E) → is_canonical r u ≡ true → are_elems p c ≡ true → ((t : ℕ) → coeff r u t ≡ member r n c t) → ((t : ℕ) → times_rows r n w u (entry r flat) t ≡ r.zero) → IsRelationRow p w m.rows c
     relation_from c u ue ce is none =
         sym (from_combination r ring w posw m.rows flat s (zero_row p w) c ce
-        (row_from p w (zero_row p w) (length-first_values w (λ j. [])) (zeros_in w))
+        (row_from p w (zero_row p w) (length-first_values w (λ j. [])) (elems-first_values p w (λ j. []) (λ j _. refl)))
         (λ t. ap (λ v. coeff r v (t / w)) (at-first_values w (λ j. []) (t % w) [] (mod-lt t {m = w} posw)) ∙ sym (sym (times_combination r ring w posw m.rows flat s u c ue ce posn is t) ∙ none t)))
-      where
-        zeros_in : (k : ℕ) → are_elems p (first_values k (λ j. [])) ≡ true
-        zeros_in zero = refl
-        zeros_in (suc k) = zeros_in k
 
     relation_into : (c : List (List E)) (u : List E) → is_canonical r u ≡ true → are_elems p c ≡ true → ((t : ℕ) → coeff r u t ≡ member r n c t) → IsRelationRow p w m.rows c → (t : ℕ) → times_rows r n w u (entry r flat) t ≡ r.zero
     relation_into c u ue ce is none t =
         times_combination r ring w posw m.rows flat s u c ue ce posn is t
         ∙ sym (to_combination r ring w posw m.rows flat s (zero_row p w) c ce (sym none) t)
         ∙ ap (λ v. coeff r v (t / w)) (at-first_values w (λ j. []) (t % w) [] (mod-lt t {m = w} posw))
-
-    module _ (k : ℕ) (posk : 0 < k) (rows : List (List (List E))) (flats : List (List E)) (sr : StandFor r k rows flats) where
-      -- exactly one combination of the flat rows is exactly one product
-      pub only_from : (x : List (List E)) (u : List E) → is_row p k x ≡ true → ((t : ℕ) → coeff r u t ≡ member r k x t) → IsOnlyCombination r k flats u → IsOnlyProduct p k rows x
-      only_from x u xr is h =
-          let count = sr.count in
-          let polys = flat_polys r h.by h.polys in
-          record {
-            by = h.by;
-            shape = row_from p (length rows) h.by (h.len ∙ count) polys;
-            is = from_combination r ring k posk rows flats sr x h.by polys xr (λ t. sym (is t) ∙ h.is t);
-            only = λ other shape e.
-                let inside = row_elems p (length rows) other shape in
-                h.only other (row_len p (length rows) other shape ∙ sym count) (polys_flat r other inside) (λ t. is t ∙ to_combination r ring k posk rows flats sr x other inside e t);
-          }
 
     pub kernel_from : (rows : List (List (List E))) (flats : List (List E)) → StandFor r n rows flats → IsBasis r n (IsRelationOf r w flat) flats → IsRowBasis p n (IsRelationRow p w m.rows) rows
     kernel_from rows flats sr h =
@@ -195,7 +183,7 @@ module _ {E : Type 0} (r : RingOps E) (inv : E → Option E) (field : IsField r 
         }
 
   -- no rows
-  pub reduced_none : (m left back image : Rows (List (List E))) → m.rows ≡ [] → left.width ≡ 0 → back.width ≡ 0 → image.width ≡ m.width → left.rows ≡ [] → back.rows ≡ [] → image.rows ≡ [] → IsReduced r m left back image
+  pub reduced_none : (m left back image : Rows (List (List E))) → m.rows ≡ [] → left.width ≡ 0 → back.width ≡ 0 → image.width ≡ m.width → left.rows ≡ [] → back.rows ≡ [] → image.rows ≡ [] → IsRowReduction r m left back image
   reduced_none m left back image e wl wb wi l b i =
       let many = ap length e in
       record {

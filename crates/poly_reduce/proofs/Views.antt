@@ -23,7 +23,7 @@ use Rattle.flat_reduce.proofs.KernelRows.{times_value}
 use Rattle.poly_reduce.specs.Matrices.{row_times, member, StandFor}
 
 module _ {E : Type 0} (r : RingOps E) where
-  abbrev p : RingOps (List E)
+  abbrev pub p : RingOps (List E)
   p = poly_ops r
 
   -- the coefficient of x^e in entry `j`

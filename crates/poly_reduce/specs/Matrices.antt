@@ -1,5 +1,5 @@
 -- Matrices as lists of rows of one width over a ring, and the flat rows that rows of polynomials stand for.
-use Rattle.std.specs.Prelude.{◌≡◌, ◌≢◌, ℕ, ◌/◌, ◌%◌, ◌<◌, true, List, length}
+use Rattle.std.specs.Prelude.{◌≡◌, ◌≢◌, ℕ, zero, suc, ◌/◌, ◌%◌, ◌<◌, ◌++◌, ◌&&◌, Bool, true, List, [], ◌∷◌, length, cond, nat_eq}
 use Rattle.ring_core.specs.Ring.{RingOps}
 use Rattle.ring_core.specs.Coeffs.{coeff, first_values}
 use Rattle.linear_algebra.specs.Combines.{combined}
@@ -70,7 +70,7 @@ pub record StandFor {E : Type 0} (r : RingOps E) (w : ℕ) (rows : List (List (L
   pub is : (i t : ℕ) → i < length rows → coeff r (row_at flats i) t ≡ member r w (row_at rows i) t
 
 -- `left m = image` and `left back = back left = identity`, the nonzero rows of `image` having different lead places.
-pub record IsReduced {E : Type 0} (r : RingOps E) (m left back image : Rows (List (List E))) : Type 0 where
+pub record IsRowReduction {E : Type 0} (r : RingOps E) (m left back image : Rows (List (List E))) : Type 0 where
   pub left_shape : IsMatrix (poly_ops r) (length m.rows) (length m.rows) left
   pub back_shape : IsMatrix (poly_ops r) (length m.rows) (length m.rows) back
   pub image_shape : IsMatrix (poly_ops r) (length m.rows) m.width image
@@ -78,3 +78,21 @@ pub record IsReduced {E : Type 0} (r : RingOps E) (m left back image : Rows (Lis
   pub left_back : product (poly_ops r) (length m.rows) left.rows back.rows ≡ identity (poly_ops r) (length m.rows)
   pub back_left : product (poly_ops r) (length m.rows) back.rows left.rows ≡ identity (poly_ops r) (length m.rows)
   pub places : (i k s t : ℕ) → i ≢ k → IsLead r m.width (row_at image.rows i) s → IsLead r m.width (row_at image.rows k) t → s % m.width ≢ t % m.width
+
+-- All polynomials of the row are zero.
+abbrev pub all_empty : {E : Type 0} → List (List E) → Bool
+all_empty [] = true
+all_empty (x ∷ xs) = nat_eq (length x) 0 && all_empty xs
+
+-- The rows of `left` below `n` where those of `image` are zero.
+abbrev pub rows_at_zeros : {E : Type 0} → List (List (List E)) → List (List (List E)) → ℕ → List (List (List E))
+rows_at_zeros image left zero = []
+rows_at_zeros image left (suc n) = cond (all_empty (row_at image n)) (rows_at_zeros image left n ++ row_at left n ∷ []) (rows_at_zeros image left n)
+
+-- The rows are those of some reduction's `left` whose image is zero.
+pub record IsOfRowReduction {E : Type 0} (r : RingOps E) (m : Rows (List (List E))) (rows : List (List (List E))) : Type 0 where
+  pub left : Rows (List (List E))
+  pub back : Rows (List (List E))
+  pub image : Rows (List (List E))
+  pub reduction : IsRowReduction r m left back image
+  pub picked : rows ≡ rows_at_zeros image.rows left.rows (length m.rows)

@@ -3,7 +3,7 @@
 ghost use Rattle.std.specs.Prelude.{◌≡◌, ◌≤◌, true, length, IfOk};
 ghost use Rattle.linear_algebra.specs.Linear.{are_rows};
 ghost use Rattle.fq_poly.specs.Poly.{poly_ops};
-ghost use Rattle.poly_reduce.specs.Matrices.{IsReduced, IsRowBasis, IsRelationRow};
+ghost use Rattle.poly_reduce.specs.Matrices.{IsRowReduction, IsRowBasis, IsRelationRow, IsOfRowReduction};
 
 use super::convert::{flatten, unflatten};
 use super::flat::{FlatReduced, kernel_flat, reduce_flat};
@@ -29,7 +29,7 @@ pub struct Reduced<E> {
 pub fn reduce<F: Field>(alloc: Global, f: &F, m: &PolyRows<E<F>>) -> Result<Reduced<E<F>>, NoMemory>
     requires width { 1 ≤ m.now.width }
     requires rows { are_rows (poly_ops (F.ops f.now)) m.now.width m.now.rows ≡ true }
-    ensures { IfOk result (λ v. IsReduced (F.ops f.now) m.now v.left v.back v.image) }
+    ensures { IfOk result (λ v. IsRowReduction (F.ops f.now) m.now v.left v.back v.image) }
 {
     if m.len() == 0 {
         return Ok(Reduced {
@@ -48,7 +48,8 @@ pub fn reduce<F: Field>(alloc: Global, f: &F, m: &PolyRows<E<F>>) -> Result<Redu
 }
 
 /// A basis of all rows `c` of the width `m.len()` with `c m = 0`: each of them is the product of exactly one row
-/// of polynomials and the answer, whatever its degrees.
+/// of polynomials and the answer, whatever its degrees. The rows are those of some reduction's `left` whose image
+/// row is zero; which basis it is isn't fixed. The width of the answer is `m.len()`.
 ///
 /// The width of `m` has to be at least 1, and the entries polynomials over `f`.
 pub fn kernel<F: Field>(
@@ -60,6 +61,7 @@ pub fn kernel<F: Field>(
     requires rows { are_rows (poly_ops (F.ops f.now)) m.now.width m.now.rows ≡ true }
     ensures width { IfOk result (λ v. v.width ≡ length m.now.rows) }
     ensures basis { let p = poly_ops (F.ops f.now) in IfOk result (λ v. IsRowBasis p (length m.now.rows) (IsRelationRow p m.now.width m.now.rows) v.rows) }
+    ensures source { IfOk result (λ v. IsOfRowReduction (F.ops f.now) m.now v.rows) }
 {
     if m.len() == 0 {
         return Ok(PolyRows::new(alloc, 0));

@@ -17,7 +17,7 @@ use ring_core::{E, Field, NoMemory};
 use std::alloc::Global;
 
 /// The flat row of a row of `w` polynomials.
-pub fn flat_row<F: Field>(
+pub fn flatten_row<F: Field>(
     alloc: Global,
     f: &F,
     w: usize,
@@ -51,7 +51,7 @@ fn flat_list<F: Field>(
 {
     let mut list = Vec::new(alloc);
     for i in 0..rows.len() {
-        list.push(Poly::from_vec(flat_row(alloc, f, w, rows[i].as_slice())?))?;
+        list.push(Poly::from_vec(flatten_row(alloc, f, w, rows[i].as_slice())?))?;
     }
     Ok(list)
 }
@@ -104,7 +104,7 @@ fn entry_of<F: Field>(
 }
 
 /// The row of `w` polynomials that stands for a flat row.
-pub fn poly_row<F: Field>(
+pub fn unflatten_row<F: Field>(
     alloc: Global,
     f: &F,
     w: usize,
@@ -135,7 +135,7 @@ fn poly_list<F: Field>(
 {
     let mut rows = Vec::new(alloc);
     for i in 0..flats.len() {
-        rows.push(poly_row(alloc, f, w, flats[i].as_slice())?)?;
+        rows.push(unflatten_row(alloc, f, w, flats[i].as_slice())?)?;
     }
     Ok(rows)
 }

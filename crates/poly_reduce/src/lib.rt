@@ -12,7 +12,7 @@ mod poly_row;
 mod poly_rows;
 
 pub use calls::{Reduced, kernel, reduce};
-pub use convert::{flatten, unflatten};
+pub use convert::{flatten, flatten_row, unflatten, unflatten_row};
 pub use flat::{FlatReduced, kernel_flat, reduce_flat};
 pub use flat_rows::FlatRows;
 pub use matrix::{identity, product};

@@ -10,8 +10,8 @@ use Rattle.linear_algebra.specs.Linear.{row_at, entry}
 use Rattle.linear_algebra.proofs.Sums.{by_bool, same_or_other}
 use Rattle.flat_modules.specs.Flat.{are_flat, lead_at, shifted}
 use Rattle.flat_modules.proofs.Lists.{flat_at, flat_in}
-use Rattle.flat_reduce.specs.Settled.{slot_of}
-use Rattle.flat_reduce.specs.Turns.{IsRowAdded, Turns, none, turn}
+use Rattle.flat_reduce.specs.steps.Settled.{slot_of}
+use Rattle.flat_reduce.specs.steps.Turns.{IsRowAdded, Turns, none, turn}
 use Rattle.popov_basis.specs.steps.Leading.{IsNaming, IsClearedAt, IsCleared, AreCleared}
 use Rattle.flat_reduce.proofs.Settling.{some_same, none_not_some, rest_row, turns_more}
 use Rattle.flat_reduce.proofs.RowSteps.{same_place, length_by_zeros}

@@ -15,7 +15,7 @@ use Rattle.flat_modules.proofs.Lists.{flat_in, longest, listed, combination_valu
 use Rattle.flat_modules.proofs.Shift.{shift, powers}
 use Rattle.flat_modules.proofs.Product.{combine_more}
 use Rattle.flat_modules.proofs.Rest.{power_row}
-use Rattle.flat_reduce.specs.Settled.{slot_of}
+use Rattle.flat_reduce.specs.steps.Settled.{slot_of}
 use Rattle.popov_basis.specs.steps.Leading.{IsNaming}
 use Rattle.popov_basis.specs.steps.Division.{IsTermAdded, IsDividedAt, IsDividedFrom}
 use Rattle.flat_reduce.proofs.Settling.{some_same, none_not_some}

@@ -5,3 +5,4 @@ mod StandardBasis
 mod Dividing
 mod RelationBasis
 mod Members
+mod RowBases

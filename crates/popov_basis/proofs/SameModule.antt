@@ -11,7 +11,7 @@ use Rattle.flat_modules.proofs.Shift.{shift, shift_same}
 use Rattle.flat_modules.proofs.Unique.{Reached, spans_row}
 use Rattle.flat_modules.proofs.Rest.{reached, reached_zero, reached_add, reached_scale, reached_row}
 use Rattle.flat_modules.proofs.Module.{reached_as, reached_into, past_rows}
-use Rattle.flat_reduce.specs.Turns.{IsRowAdded, Turns, none, turn}
+use Rattle.flat_reduce.specs.steps.Turns.{IsRowAdded, Turns, none, turn}
 use Rattle.popov_basis.specs.steps.Leading.{IsLeading}
 use Rattle.flat_reduce.proofs.Reduced.{added_in}
 

@@ -14,9 +14,9 @@ use Rattle.flat_modules.proofs.Unique.{standard_places}
 use Rattle.flat_modules.proofs.OneBasis.{to_standard}
 use Rattle.flat_modules.proofs.Only.{only_combination}
 use Rattle.flat_modules.proofs.Module.{reached_as, from_reached}
-use Rattle.flat_reduce.specs.Settled.{slot_of}
-use Rattle.flat_reduce.specs.Turns.{Turns}
-use Rattle.flat_reduce.specs.Settled.{IsUnsettled}
+use Rattle.flat_reduce.specs.steps.Settled.{slot_of}
+use Rattle.flat_reduce.specs.steps.Turns.{Turns}
+use Rattle.flat_reduce.specs.steps.Settled.{IsUnsettled}
 use Rattle.popov_basis.specs.steps.Leading.{IsLeading, AreCleared}
 use Rattle.flat_reduce.proofs.Settling.{some_same}
 use Rattle.popov_basis.proofs.SameModule.{Reaches, SameModule, reached_rows, reaches_all, same_turns, leading_into, leading_back}

@@ -1,1 +1,2 @@
+pub mod StandardRows
 pub mod steps

@@ -4,7 +4,7 @@ ghost use Rattle.std.specs.Prelude.{◌≡◌, ◌≢◌, ◌+◌, ◌-◌, ◌*
 ghost use Rattle.ring_core.specs.Coeffs.{coeff, is_canonical};
 ghost use Rattle.linear_algebra.specs.Linear.{row_at, entry};
 ghost use Rattle.flat_modules.specs.Flat.{are_flat, lead_at};
-ghost use Rattle.flat_reduce.specs.Settled.{slot_of};
+ghost use Rattle.flat_reduce.specs.steps.Settled.{slot_of};
 ghost use Rattle.popov_basis.specs.steps.Leading.{IsNaming, IsClearedAt, IsCleared, AreCleared};
 
 use flat_reduce::rows::add_row;

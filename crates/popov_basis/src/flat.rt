@@ -4,9 +4,9 @@ ghost use Rattle.std.specs.Prelude.{◌≡◌, ◌↔◌, [], true, length, max,
 ghost use Rattle.ring_core.specs.Coeffs.{is_canonical};
 ghost use Rattle.flat_modules.specs.Flat.{are_flat, IsStandard, IsStandardBasis, IsInModule, IsRelationOf, IsNormal};
 
-use super::normal::{FlatNormal, normal_rows};
+use super::divide::{FlatNormal, normal_rows};
 use super::relations::relation_rows;
-use super::standard::standard_rows;
+use super::settled::standard_rows;
 use poly_reduce::FlatRows;
 use ring_core::{E, Field, NoMemory};
 use std::alloc::Global;

@@ -2,13 +2,15 @@
 //! rows have, and division with remainder by them.
 #![tactic(auto)]
 
+mod calls;
 mod clear;
+mod divide;
 mod flat;
 pub mod laws;
 mod leading;
-mod normal;
 mod relations;
-mod standard;
+mod settled;
 
+pub use calls::{NormalForm, normal, standard};
+pub use divide::FlatNormal;
 pub use flat::{normal_flat, relations_flat, standard_flat};
-pub use normal::FlatNormal;

@@ -3,7 +3,7 @@
 ghost use Rattle.std.specs.Prelude.{◌≡◌, ◌≤◌, true, length, IfOk};
 ghost use Rattle.flat_modules.specs.Flat.{are_flat, IsStandardBasis, IsRelationOf};
 
-use super::standard::standard_rows;
+use super::settled::standard_rows;
 use flat_reduce::kernel_rows;
 use fq_poly::Poly;
 use ring_core::{E, Field, NoMemory};

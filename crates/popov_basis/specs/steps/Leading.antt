@@ -4,8 +4,8 @@ use Rattle.ring_core.specs.Ring.{RingOps, IsElem}
 use Rattle.ring_core.specs.Coeffs.{coeff}
 use Rattle.linear_algebra.specs.Linear.{row_at, entry}
 use Rattle.flat_modules.specs.Flat.{lead_at}
-use Rattle.flat_reduce.specs.Turns.{Turns}
-use Rattle.flat_reduce.specs.Settled.{slot_of}
+use Rattle.flat_reduce.specs.steps.Turns.{Turns}
+use Rattle.flat_reduce.specs.steps.Settled.{slot_of}
 
 -- Row `i` is the shortest of those that are longer than `above`.
 pub record IsNext {E : Type 0} (image : List (List E)) (above i : ℕ) : Type 0 where

@@ -1,7 +1,7 @@
 use Rattle.std.proofs.Common.{◌≡◌, length, sym, ap, subst, ◌∙◌, arith}
 use Rattle.flat_modules.specs.Flat.{zero_rows, IsBasis, IsRelationOf, IsOfReduction}
-use Rattle.flat_reduce.specs.Settled.{slot_of}
-use Rattle.flat_reduce.specs.Turns.{Turns}
+use Rattle.flat_reduce.specs.steps.Settled.{slot_of}
+use Rattle.flat_reduce.specs.steps.Turns.{Turns}
 use Rattle.flat_reduce.proofs.KernelBasis.{kernel_basis}
 use Rattle.flat_reduce.proofs.Reduction.{picked_listed}
 use Rattle.flat_reduce.proofs.Pushed.{free_len, not_free}

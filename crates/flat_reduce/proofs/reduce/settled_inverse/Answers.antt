@@ -1,7 +1,7 @@
 use Rattle.std.proofs.Common.{◌≡◌, ◌<◌, ◌+◌, ◌*◌, ◌/◌, ◌%◌, ℕ, length, sym, ap, subst, ◌∙◌, arith}
 use Rattle.linear_algebra.specs.Linear.{entry}
-use Rattle.flat_reduce.specs.Settled.{slot_of}
-use Rattle.flat_reduce.specs.Turns.{Turns}
+use Rattle.flat_reduce.specs.steps.Settled.{slot_of}
+use Rattle.flat_reduce.specs.steps.Turns.{Turns}
 use Rattle.flat_reduce.proofs.Pushed.{free_len, not_free}
 use Rattle.flat_reduce.proofs.Reduction.{reduction_listed}
 use Rattle.flat_reduce.proofs.reduce.settled_inverse.Goals as goal

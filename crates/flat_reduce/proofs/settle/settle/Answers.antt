@@ -1,7 +1,7 @@
 use Rattle.std.proofs.Common.{◌≡◌, ◌-◌, ◌%◌, ◌<◌, length, refl, sym, ap, subst, arith}
 use Rattle.std.proofs.Math.Nat.{mod-lt}
 use Rattle.linear_algebra.specs.Linear.{row_at}
-use Rattle.flat_reduce.specs.Turns.{Turns, none}
+use Rattle.flat_reduce.specs.steps.Turns.{Turns, none}
 use Rattle.flat_reduce.proofs.Reading.{read_len}
 use Rattle.flat_reduce.proofs.Settling.{turns_more, unsettled_placed, unsettled_done, none_if, empty_row}
 use Rattle.flat_reduce.proofs.settle.settle.Goals as goal

@@ -1,5 +1,5 @@
 use Rattle.std.proofs.Common.{length, refl, subst, arith}
-use Rattle.flat_reduce.specs.Turns.{Turns, none}
+use Rattle.flat_reduce.specs.steps.Turns.{Turns, none}
 use Rattle.flat_reduce.proofs.Settling.{turns_more, unsettled_next}
 use Rattle.flat_reduce.proofs.settle.settle_all.Goals as goal
 

@@ -1,7 +1,7 @@
 use Rattle.std.proofs.Common.{◌≡◌, true, length}
 use Rattle.flat_modules.specs.Flat.{are_flat}
-use Rattle.flat_reduce.specs.Turns.{Turns}
-use Rattle.flat_reduce.specs.Settled.{IsUnsettled}
+use Rattle.flat_reduce.specs.steps.Turns.{Turns}
+use Rattle.flat_reduce.specs.steps.Settled.{IsUnsettled}
 use Rattle.flat_reduce.proofs.settle.settle_all.Given as goal
 
 abbrev pub invariant-loop-i : goal.invariant-loop-i

@@ -1,8 +1,8 @@
 use Rattle.std.proofs.Common.{◌≡◌, ◌-◌, ◌%◌, length, sym, ap, ◌∙◌, arith}
 use Rattle.std.proofs.Math.Nat.{mod-lt}
 use Rattle.linear_algebra.specs.Linear.{row_at}
-use Rattle.flat_reduce.specs.Settled.{slot_of}
-use Rattle.flat_reduce.specs.Turns.{none, turn}
+use Rattle.flat_reduce.specs.steps.Settled.{slot_of}
+use Rattle.flat_reduce.specs.steps.Turns.{none, turn}
 use Rattle.flat_reduce.proofs.Reading.{read_len}
 use Rattle.flat_reduce.proofs.Settling.{rest_row, fewer_by_turn, unsettled_kept, unsettled_swapped}
 use Rattle.flat_reduce.proofs.settle.settle_once.Goals as goal

@@ -1,6 +1,6 @@
 use Rattle.std.proofs.Common.{length, sym, ap, subst, ◌∙◌, arith}
 use Rattle.linear_algebra.specs.Linear.{row_at}
-use Rattle.flat_reduce.specs.Turns.{IsRowAdded}
+use Rattle.flat_reduce.specs.steps.Turns.{IsRowAdded}
 use Rattle.flat_reduce.proofs.Reading.{read_elems, read_len, read_coeff}
 use Rattle.flat_reduce.proofs.RowSteps.{not_empty_len, turn_of, shorter_of, inverse_of, has_inverse}
 use Rattle.flat_reduce.proofs.turn.turn.Goals as goal

@@ -11,8 +11,8 @@ use Rattle.flat_reduce.proofs.Reading.{read_row}
 use Rattle.poly_reduce.specs.Matrices.{member}
 use Rattle.poly_reduce.proofs.convert.flat_list.Goals as goal
 
-pub flat_row-requires-clause-row : goal.flat_row-requires-clause-row
-flat_row-requires-clause-row g c =
+pub flatten_row-requires-clause-row : goal.flatten_row-requires-clause-row
+flatten_row-requires-clause-row g c =
     let p = poly_ops (g.F.Field.ops c.args.f.now) in
     let i = c.loop-i.i in
     let inside : i < length c.args.rows.now = omega arith in
@@ -33,11 +33,11 @@ loop-i-preserved g c =
     let read = read_row rows c.loop-i.i _ c.index-rows-i.result (omega arith) (c.as_slice.ensures ∙ c.index-rows-i.is) in
     record {
       count = omega (arith, count, one_more, before.count);
-      flat = ap (are_flat r) pushed ∙ flat_push r list x before.flat (ap (is_canonical r) same ∙ c.in_ok-flat_row.ensures.flat);
+      flat = ap (are_flat r) pushed ∙ flat_push r list x before.flat (ap (is_canonical r) same ∙ c.in_ok-flatten_row.ensures.flat);
       is = λ i t l. elim (same_or_other i c.loop-i.i) [
         | inl here ↦
             ap (λ u. coeff r u t) (ap (λ v. row_at v i) pushed ∙ push_last list x i (before.count ∙ sym here) ∙ same)
-            ∙ c.in_ok-flat_row.ensures.is t ∙ ap (λ u. member r w u t) (read ∙ ap (row_at rows) (sym here))
+            ∙ c.in_ok-flatten_row.ensures.is t ∙ ap (λ u. member r w u t) (read ∙ ap (row_at rows) (sym here))
         | inr ne ↦
             let low : i < length list = omega (arith, l, ne, before.count) in
             ap (λ u. coeff r u t) (ap (λ v. row_at v i) pushed ∙ push_low list x i low) ∙ before.is i t (omega (arith, low, before.count))

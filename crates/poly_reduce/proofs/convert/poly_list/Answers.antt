@@ -10,8 +10,8 @@ use Rattle.flat_reduce.proofs.Reading.{read_elems, read_row}
 use Rattle.poly_reduce.specs.Matrices.{member}
 use Rattle.poly_reduce.proofs.convert.poly_list.Goals as goal
 
-pub poly_row-requires-clause-flat : goal.poly_row-requires-clause-flat
-poly_row-requires-clause-flat g c =
+pub unflatten_row-requires-clause-flat : goal.unflatten_row-requires-clause-flat
+unflatten_row-requires-clause-flat g c =
     read_elems (g.F.Field.ops c.args.f.now) c.args.flats.now c.requires.flats c.loop-i.i _ c.index-flats-i.result (omega arith) (c.as_slice.ensures ∙ c.index-flats-i.is)
 
 pub loop-i-preserved : goal.loop-i-preserved
@@ -21,17 +21,17 @@ loop-i-preserved g c =
     let flats = c.args.flats.now in
     let before = c.loop-i.invariant in
     let rows = c.loop-i.rows.items in
-    let x = c.in_ok-poly_row.field-0 in
+    let x = c.in_ok-unflatten_row.field-0 in
     let pushed : c.push.new.self.items ≡ rows ++ x ∷ [] = c.in_ok-push.ensures.items in
     let count = ap length pushed in
     let one_more = length_push rows x in
     let read = read_row flats c.loop-i.i _ c.index-flats-i.result (omega arith) (c.as_slice.ensures ∙ c.index-flats-i.is) in
     record {
       count = omega (arith, count, one_more, before.count);
-      shape = ap (are_rows (poly_ops r) w) pushed ∙ rows_push (poly_ops r) w rows x before.shape c.in_ok-poly_row.ensures.row;
+      shape = ap (are_rows (poly_ops r) w) pushed ∙ rows_push (poly_ops r) w rows x before.shape c.in_ok-unflatten_row.ensures.row;
       is = λ i t l. elim (same_or_other i c.loop-i.i) [
         | inl here ↦
-            ap (λ k. coeff r (row_at flats k) t) here ∙ ap (λ u. coeff r u t) (sym read) ∙ c.in_ok-poly_row.ensures.is t
+            ap (λ k. coeff r (row_at flats k) t) here ∙ ap (λ u. coeff r u t) (sym read) ∙ c.in_ok-unflatten_row.ensures.is t
             ∙ ap (λ u. member r w u t) (sym (ap (λ v. row_at v i) pushed ∙ push_last rows x i (before.count ∙ sym here)))
         | inr ne ↦
             let low : i < length rows = omega (arith, l, ne, before.count) in

@@ -1,5 +1,5 @@
 use Rattle.std.proofs.Common.{◌≡◌, ◌-◌, ◌%◌, true, sym, ap, subst, ◌∙◌, arith}
-use Rattle.flat_reduce.specs.Turns.{IsRowAdded}
+use Rattle.flat_reduce.specs.steps.Turns.{IsRowAdded}
 use Rattle.flat_reduce.proofs.Settling.{none_if}
 use Rattle.flat_reduce.proofs.Reading.{read_elems}
 use Rattle.flat_reduce.proofs.Reading.{read_len, read_coeff}

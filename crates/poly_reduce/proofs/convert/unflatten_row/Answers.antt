@@ -6,7 +6,7 @@ use Rattle.linear_algebra.specs.Linear.{row_at}
 use Rattle.linear_algebra.proofs.Sums.{same_or_other}
 use Rattle.fq_poly.specs.Poly.{poly_ops}
 use Rattle.flat_reduce.proofs.Pushed.{push_low, push_last}
-use Rattle.poly_reduce.proofs.convert.poly_row.Goals as goal
+use Rattle.poly_reduce.proofs.convert.unflatten_row.Goals as goal
 
 pub loop-j-preserved : goal.loop-j-preserved
 loop-j-preserved g c =

@@ -2,7 +2,7 @@ use Rattle.std.proofs.Common.{◌≡◌, true}
 use Rattle.ring_core.specs.Coeffs.{are_elems}
 use Rattle.flat_modules.specs.Flat.{are_flat}
 use Rattle.popov_basis.specs.steps.Division.{IsDividedFrom}
-use Rattle.popov_basis.proofs.normal.divide.Given as goal
+use Rattle.popov_basis.proofs.divide.divide.Given as goal
 
 abbrev pub invariant-loop-t : goal.invariant-loop-t
 invariant-loop-t g l =

@@ -2,11 +2,11 @@ use Rattle.std.proofs.Common.{◌≡◌, length, sym, ap, subst, ◌∙◌, arit
 use Rattle.ring_core.proofs.RowSteps.{whole_written}
 use Rattle.flat_modules.specs.Flat.{are_flat, IsStandardBasis, IsInModule}
 use Rattle.flat_modules.proofs.Lists.{longest}
-use Rattle.flat_reduce.specs.Turns.{Turns}
-use Rattle.flat_reduce.specs.Settled.{IsUnsettled}
+use Rattle.flat_reduce.specs.steps.Turns.{Turns}
+use Rattle.flat_reduce.specs.steps.Settled.{IsUnsettled}
 use Rattle.popov_basis.specs.steps.Leading.{IsLeading}
 use Rattle.popov_basis.proofs.StandardBasis.{leading_places, standard_basis}
-use Rattle.popov_basis.proofs.standard.settled_standard.Goals as goal
+use Rattle.popov_basis.proofs.settled.settled_standard.Goals as goal
 
 pub cleared-requires-clause-full : goal.cleared-requires-clause-full
 cleared-requires-clause-full g c =

@@ -7,7 +7,7 @@ use Rattle.flat_reduce.proofs.Reading.{read_elems}
 use Rattle.flat_reduce.proofs.Reading.{read_len}
 use Rattle.flat_reduce.proofs.Reading.{read_row}
 use Rattle.popov_basis.proofs.Dividing.{divide_free, divide_high, divide_taken}
-use Rattle.popov_basis.proofs.normal.divide_at.Goals as goal
+use Rattle.popov_basis.proofs.divide.divide_at.Goals as goal
 
 pub returns-in_default-clause-divided : goal.returns-in_default-clause-divided
 returns-in_default-clause-divided g c =

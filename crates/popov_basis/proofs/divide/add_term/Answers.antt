@@ -5,7 +5,7 @@ use Rattle.flat_reduce.proofs.Reading.{read_elems}
 use Rattle.flat_reduce.proofs.RowSteps.{flat_set}
 use Rattle.flat_reduce.proofs.Reading.{read_coeff}
 use Rattle.popov_basis.proofs.Dividing.{one_at, row_here, row_apart}
-use Rattle.popov_basis.proofs.normal.add_term.Goals as goal
+use Rattle.popov_basis.proofs.divide.add_term.Goals as goal
 
 pub add_shifted-requires-clause-list : goal.add_shifted-requires-clause-list
 add_shifted-requires-clause-list g c =

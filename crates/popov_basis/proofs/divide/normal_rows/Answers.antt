@@ -7,7 +7,7 @@ use Rattle.linear_algebra.specs.Linear.{row_at}
 use Rattle.flat_modules.specs.Flat.{IsNormal}
 use Rattle.popov_basis.specs.steps.Division.{IsDividedFrom}
 use Rattle.popov_basis.proofs.Dividing.{is_normal}
-use Rattle.popov_basis.proofs.normal.normal_rows.Goals as goal
+use Rattle.popov_basis.proofs.divide.normal_rows.Goals as goal
 
 pub returns : goal.returns
 returns g c =

@@ -1,7 +1,7 @@
 use Rattle.std.proofs.Common.{◌≡◌, true}
 use Rattle.ring_core.specs.Coeffs.{are_elems, first_values}
 use Rattle.poly_reduce.specs.Matrices.{member}
-use Rattle.poly_reduce.proofs.convert.flat_row.Given as goal
+use Rattle.poly_reduce.proofs.convert.flatten_row.Given as goal
 
 abbrev pub invariant-loop-t : goal.invariant-loop-t
 invariant-loop-t g l =

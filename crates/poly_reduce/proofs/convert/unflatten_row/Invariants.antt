@@ -2,7 +2,7 @@ use Rattle.std.proofs.Common.{◌≡◌, ◌+◌, ◌*◌, ◌<◌, ℕ, true, l
 use Rattle.ring_core.specs.Coeffs.{coeff, are_elems}
 use Rattle.linear_algebra.specs.Linear.{row_at}
 use Rattle.fq_poly.specs.Poly.{poly_ops}
-use Rattle.poly_reduce.proofs.convert.poly_row.Given as goal
+use Rattle.poly_reduce.proofs.convert.unflatten_row.Given as goal
 
 abbrev pub invariant-loop-j : goal.invariant-loop-j
 invariant-loop-j g l =

@@ -10,7 +10,7 @@ use Rattle.fq_poly.specs.Poly.{poly_ops}
 use Rattle.flat_reduce.proofs.Reading.{read_elems, read_coeff}
 use Rattle.poly_reduce.specs.Matrices.{member}
 use Rattle.poly_reduce.proofs.Views.{polys_flat, row_canonical}
-use Rattle.poly_reduce.proofs.convert.flat_row.Goals as goal
+use Rattle.poly_reduce.proofs.convert.flatten_row.Goals as goal
 
 pub coeff_at-requires : goal.coeff_at-requires
 coeff_at-requires g c =

@@ -1,0 +1,3 @@
+-- What private functions do.
+pub mod Turns
+pub mod Settled
