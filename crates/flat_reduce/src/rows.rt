@@ -9,23 +9,9 @@ ghost use Rattle.flat_reduce.specs.steps.Turns.{IsRowAdded};
 
 use fq_poly::Poly;
 use ring_core::lists::trimmed;
-use ring_core::rows::add_scaled;
+use ring_core::rows::{add_scaled, extend};
 use ring_core::{E, Field, NoMemory};
 use std::alloc::Global;
-
-/// The list with zeros at its end, so that it has at least `len` members.
-fn extended<F: Field>(f: &F, list: Vec<E<F>>, len: usize) -> Result<Vec<E<F>>, NoMemory>
-    requires { are_elems (F.ops f.now) list.items ≡ true }
-    ensures elems { IfOk result (λ v. are_elems (F.ops f.now) v.items ≡ true) }
-    ensures len { IfOk result (λ v. len ≤ length v.items) }
-    ensures same { IfOk result (λ v. let r = F.ops f.now in (t : ℕ) → coeff r v.items t ≡ coeff r list.items t) }
-{
-    let mut longer = list;
-    for i in longer.len()..len {
-        longer.push(f.zero())?;
-    }
-    Ok(longer)
-}
 
 /// The list and `c` times `row` behind `s` zeros, without zeros at the end. Takes no memory where `row` is
 /// empty.
@@ -48,7 +34,8 @@ pub fn add_shifted<F: Field>(
     let Some(len) = s.checked_add(row.len()) else {
         return Err(NoMemory);
     };
-    let mut longer = extended(f, list, len)?;
+    let mut longer = list;
+    extend(f, &mut longer, len)?;
     add_scaled(f, &mut longer, s, c, row);
     Ok(trimmed(f, longer))
 }
