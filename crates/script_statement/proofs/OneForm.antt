@@ -1,5 +1,5 @@
 -- Tokens stand for at most one form.
-use Rattle.std.proofs.Common.{◌≡◌, ℕ, true, List, [], ◌∷◌, Option, Some, None, refl, sym, ap, ◌∙◌, subst, lit<, arith}
+use Rattle.std.proofs.Common.{◌≡◌, true, List, [], Option, Some, refl, sym, ap, ◌∙◌, subst, lit<, arith}
 use Rattle.script_lang.specs.declared.Token.{Token}
 use Rattle.script_statement.specs.declared.form.Form.{Form}
 use Rattle.script_statement.specs.declared.form.Form.TheVariants as form
@@ -8,7 +8,7 @@ use Rattle.script_lang.specs.declared.Name.{Name}
 use Rattle.script_lang.specs.declared.OreArg.{OreArg}
 use Rattle.script_lang.specs.declared.OreArg.TheVariants as twisted_operand
 use Rattle.script_lang.specs.declared.Kind.TheVariants as kind
-use Rattle.script_lang.specs.Grammar.{deepest, IsSum, IsList, IsModOperand, IsOreOperand, binds}
+use Rattle.script_lang.specs.Grammar.{deepest, IsSum, IsList, IsOreOperand, binds}
 use Rattle.script_lang.proofs.Equal.{same_some, same_tail}
 use Rattle.script_lang.proofs.Operands.{list_once, module_once, twisted_once, twisted_begins}
 use Rattle.script_lang.proofs.OneReading.{sum_once}
@@ -16,7 +16,7 @@ use Rattle.script_statement.specs.declared.verb.Verb.{Verb}
 use Rattle.script_statement.specs.declared.verb.ModuleVerb.{ModuleVerb}
 use Rattle.script_statement.specs.declared.verb.PairVerb.{PairVerb}
 use Rattle.script_statement.specs.declared.verb.TwistedVerb.{TwistedVerb}
-use Rattle.script_statement.specs.Verbs.{verb_of, computed}
+use Rattle.script_statement.specs.Verbs.{computed}
 use Rattle.script_statement.specs.Statements.{IsResult, AfterPair, AfterModule, AfterTwisted, IsOperands, IsVerb, IsStatement}
 use Rattle.script_statement.proofs.Ends.{name_once}
 

@@ -1,5 +1,5 @@
 -- Where a reader finds no part of a statement, the tokens are no such statement.
-use Rattle.std.proofs.Common.{◌≡◌, ◌≢◌, ℕ, ◌<◌, Bool, true, false, List, [], ◌∷◌, Option, Some, None, refl, sym, ap, ◌∙◌, subst, lit<, arith}
+use Rattle.std.proofs.Common.{◌≡◌, ◌≢◌, ℕ, ◌<◌, true, false, List, [], ◌∷◌, Option, None, refl, sym, ap, ◌∙◌, subst, arith}
 use Rattle.script_lang.specs.declared.Sign.TheVariants.{Minus, Equals}
 use Rattle.script_lang.specs.declared.Token.{Token}
 use Rattle.script_lang.specs.declared.Token.TheVariants as token
@@ -10,7 +10,7 @@ use Rattle.script_lang.specs.declared.Name.{Name}
 use Rattle.script_lang.specs.declared.OreArg.{OreArg}
 use Rattle.script_lang.specs.declared.Sum.{Sum}
 use Rattle.script_lang.specs.Grammar.{IsSum, IsList, IsName, IsModOperand, IsOreOperand, binds, Refuses}
-use Rattle.script_lang.proofs.Equal.{same_some, same_tail}
+use Rattle.script_lang.proofs.Equal.{same_tail}
 use Rattle.script_lang.proofs.Operands.{module_once, twisted_once, twisted_begins}
 use Rattle.script_lang.proofs.OneReading.{sum_once}
 use Rattle.script_statement.specs.declared.verb.Verb.{Verb}

@@ -1,5 +1,5 @@
 -- The statements, as relations between the tokens of a whole line and the form that they stand for.
-use Rattle.std.specs.Prelude.{◌≡◌, ◌≢◌, ℕ, Bool, true, false, Option, Some, None, List, [], ◌∷◌}
+use Rattle.std.specs.Prelude.{◌≡◌, ◌≢◌, ℕ, true, false, Option, Some, None, List, [], ◌∷◌}
 use Rattle.script_lang.specs.declared.Sign.TheVariants.{Minus, Equals}
 use Rattle.script_lang.specs.declared.Token.{Token}
 use Rattle.script_lang.specs.declared.Token.TheVariants as token
@@ -11,7 +11,7 @@ use Rattle.script_lang.specs.declared.Name.{Name}
 use Rattle.script_lang.specs.declared.OreArg.{OreArg}
 use Rattle.script_lang.specs.declared.OreArg.TheVariants as twisted_operand
 use Rattle.script_lang.specs.declared.Sum.{Sum}
-use Rattle.script_lang.specs.Grammar.{name_of, deepest, IsSum, IsList, IsName, IsModOperand, IsOreOperand}
+use Rattle.script_lang.specs.Grammar.{deepest, IsSum, IsList, IsName, IsModOperand, IsOreOperand}
 use Rattle.script_statement.specs.declared.verb.Verb.{Verb}
 use Rattle.script_statement.specs.declared.verb.Verb.TheVariants as verb
 use Rattle.script_statement.specs.declared.verb.ModuleVerb.{ModuleVerb}

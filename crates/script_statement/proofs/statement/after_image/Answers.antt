@@ -1,7 +1,7 @@
-use Rattle.std.proofs.Common.{◌≡◌, ◌≢◌, ◌<◌, true, false, [], rules}
+use Rattle.std.proofs.Common.{◌<◌, false, rules}
 use Rattle.script_lang.specs.declared.Kind.TheVariants as kind
-use Rattle.script_lang.specs.Grammar.{IsSum, IsList, IsName, IsModOperand, IsOreOperand, binds}
-use Rattle.script_statement.specs.Statements.{IsResult, AfterPair, AfterModule, AfterTwisted, IsOperands}
+use Rattle.script_lang.specs.Grammar.{IsSum, binds}
+use Rattle.script_statement.specs.Statements.{IsResult, AfterModule}
 use Rattle.script_statement.proofs.Refused.{image_without_sum, image_without_result}
 use Rattle.script_statement.proofs.statement.after_image.Goals as goal
 

@@ -1,9 +1,7 @@
-use Rattle.std.proofs.Common.{sym, subst, ◌≡◌, ◌≢◌, ◌<◌, true, false, [], rules}
-use Rattle.script_lang.specs.declared.Kind.TheVariants as kind
+use Rattle.std.proofs.Common.{sym, subst, ◌≡◌, rules}
 use Rattle.script_statement.specs.declared.form.Form.TheVariants as form
-use Rattle.script_lang.specs.Grammar.{IsSum, IsList, IsName, IsModOperand, IsOreOperand, binds}
 use Rattle.script_statement.specs.declared.verb.ModuleVerb.TheVariants as module_verb
-use Rattle.script_statement.specs.Statements.{IsResult, AfterPair, AfterModule, AfterTwisted, IsOperands}
+use Rattle.script_statement.specs.Statements.{AfterModule}
 use Rattle.script_statement.proofs.There.{ask_there, number_there}
 use Rattle.script_statement.proofs.statement.after_module.Goals as goal
 

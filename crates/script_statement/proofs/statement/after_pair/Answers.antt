@@ -1,9 +1,8 @@
-use Rattle.std.proofs.Common.{sym, subst, ◌≡◌, ◌≢◌, ◌<◌, true, false, [], rules}
-use Rattle.script_lang.specs.declared.Kind.TheVariants as kind
+use Rattle.std.proofs.Common.{sym, subst, ◌≡◌, [], rules}
 use Rattle.script_statement.specs.declared.form.Form.TheVariants as form
-use Rattle.script_lang.specs.Grammar.{IsSum, IsList, IsName, IsModOperand, IsOreOperand, binds}
+use Rattle.script_lang.specs.Grammar.{IsOreOperand}
 use Rattle.script_statement.specs.declared.verb.PairVerb.TheVariants as pair_verb
-use Rattle.script_statement.specs.Statements.{IsResult, AfterPair, AfterModule, AfterTwisted, IsOperands}
+use Rattle.script_statement.specs.Statements.{AfterPair}
 use Rattle.script_statement.proofs.There.{relate_there, bounded_there}
 use Rattle.script_statement.proofs.statement.after_pair.Goals as goal
 

@@ -1,7 +1,6 @@
-use Rattle.std.proofs.Common.{◌≡◌, ◌≢◌, ◌<◌, true, false, [], rules}
-use Rattle.script_lang.specs.declared.Kind.TheVariants as kind
-use Rattle.script_lang.specs.Grammar.{IsSum, IsList, IsName, IsModOperand, IsOreOperand, binds}
-use Rattle.script_statement.specs.Statements.{IsResult, AfterPair, AfterModule, AfterTwisted, IsOperands}
+use Rattle.std.proofs.Common.{◌<◌, rules}
+use Rattle.script_lang.specs.Grammar.{IsOreOperand, binds}
+use Rattle.script_statement.specs.Statements.{IsResult, AfterModule}
 use Rattle.script_statement.proofs.Refused.{quotient_without_operand, quotient_without_result}
 use Rattle.script_statement.proofs.statement.after_quotient.Goals as goal
 

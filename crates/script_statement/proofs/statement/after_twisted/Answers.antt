@@ -1,8 +1,6 @@
-use Rattle.std.proofs.Common.{sym, subst, ◌≡◌, ◌≢◌, ◌<◌, true, false, [], rules}
-use Rattle.script_lang.specs.declared.Kind.TheVariants as kind
-use Rattle.script_lang.specs.Grammar.{IsSum, IsList, IsName, IsModOperand, IsOreOperand, binds}
+use Rattle.std.proofs.Common.{sym, subst, ◌≡◌, rules}
 use Rattle.script_statement.specs.declared.verb.TwistedVerb.TheVariants as twisted_verb
-use Rattle.script_statement.specs.Statements.{IsResult, AfterPair, AfterModule, AfterTwisted, IsOperands}
+use Rattle.script_statement.specs.Statements.{IsResult, AfterTwisted}
 use Rattle.script_statement.proofs.There.{compute_there, divide_there}
 use Rattle.script_statement.proofs.statement.after_twisted.Goals as goal
 

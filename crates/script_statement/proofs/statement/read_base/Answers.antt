@@ -1,7 +1,6 @@
-use Rattle.std.proofs.Common.{◌≡◌, ◌≢◌, ◌<◌, true, false, [], rules}
+use Rattle.std.proofs.Common.{false, [], rules}
 use Rattle.script_lang.specs.declared.Kind.TheVariants as kind
-use Rattle.script_lang.specs.Grammar.{IsSum, IsList, IsName, IsModOperand, IsOreOperand, binds}
-use Rattle.script_statement.specs.Statements.{IsResult, AfterPair, AfterModule, AfterTwisted, IsOperands}
+use Rattle.script_lang.specs.Grammar.{IsSum}
 use Rattle.script_statement.proofs.There.{prime_there, power_there}
 use Rattle.script_statement.proofs.statement.read_base.Goals as goal
 

@@ -1,7 +1,5 @@
-use Rattle.std.proofs.Common.{◌≡◌, ◌≢◌, ◌<◌, true, false, [], rules}
-use Rattle.script_lang.specs.declared.Kind.TheVariants as kind
-use Rattle.script_lang.specs.Grammar.{IsSum, IsList, IsName, IsModOperand, IsOreOperand, binds}
-use Rattle.script_statement.specs.Statements.{IsResult, AfterPair, AfterModule, AfterTwisted, IsOperands}
+use Rattle.std.proofs.Common.{[], rules}
+use Rattle.script_lang.specs.Grammar.{IsList, IsName}
 use Rattle.script_statement.proofs.Refused.{module_without_equals, module_without_list}
 use Rattle.script_statement.proofs.There.{module_there}
 use Rattle.script_statement.proofs.statement.read_new_module.Goals as goal

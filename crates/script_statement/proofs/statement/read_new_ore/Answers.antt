@@ -1,7 +1,6 @@
-use Rattle.std.proofs.Common.{◌≡◌, ◌≢◌, ◌<◌, true, false, [], rules}
+use Rattle.std.proofs.Common.{true, [], rules}
 use Rattle.script_lang.specs.declared.Kind.TheVariants as kind
-use Rattle.script_lang.specs.Grammar.{IsSum, IsList, IsName, IsModOperand, IsOreOperand, binds}
-use Rattle.script_statement.specs.Statements.{IsResult, AfterPair, AfterModule, AfterTwisted, IsOperands}
+use Rattle.script_lang.specs.Grammar.{IsSum, IsName, IsOreOperand}
 use Rattle.script_statement.proofs.Refused.{ore_without_equals, negative_refused, operand_refused}
 use Rattle.script_statement.proofs.There.{ore_there, negative_there}
 use Rattle.script_statement.proofs.statement.read_new_ore.Goals as goal

@@ -1,7 +1,6 @@
-use Rattle.std.proofs.Common.{◌≡◌, ◌≢◌, ◌<◌, true, false, [], rules}
-use Rattle.script_lang.specs.declared.Kind.TheVariants as kind
-use Rattle.script_lang.specs.Grammar.{IsSum, IsList, IsName, IsModOperand, IsOreOperand, binds}
-use Rattle.script_statement.specs.Statements.{IsResult, AfterPair, AfterModule, AfterTwisted, IsOperands}
+use Rattle.std.proofs.Common.{rules}
+use Rattle.script_lang.specs.Grammar.{IsModOperand}
+use Rattle.script_statement.specs.Statements.{AfterPair, AfterModule}
 use Rattle.script_statement.proofs.Refused.{pair_refused}
 use Rattle.script_statement.proofs.statement.read_pair.Goals as goal
 

@@ -1,5 +1,4 @@
 use Rattle.std.proofs.Common.{rules}
-use Rattle.script_statement.proofs.Refused.{no_word, no_verb}
 use Rattle.script_statement.proofs.There.{verb_there}
 use Rattle.script_statement.proofs.statement.read_verb.Goals as goal
 
