@@ -1,0 +1,6 @@
+pub mod ListBases
+pub mod Values
+pub mod Relations
+pub mod PowerRows
+pub mod Scaled
+pub mod Products

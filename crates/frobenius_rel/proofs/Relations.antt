@@ -1,0 +1,152 @@
+-- The least relation of Frobenius, from a basis of the relations between the coordinates of its powers.
+use Rattle.std.proofs.Common.{◌≡◌, ℕ, suc, ◌-◌, ◌*◌, ◌<◌, ◌≤◌, Option, true, List, length, refl, sym, ◌∙◌, ap, arith}
+use Rattle.ring_core.specs.Ring.{RingOps, IsRing}
+use Rattle.ring_core.specs.Field.{IsField, FrobOps, IsFrobField}
+use Rattle.ring_core.specs.Coeffs.{coeff}
+use Rattle.ring_core.specs.Twisted.{twisted_ops}
+use Rattle.ring_core.proofs.Carrier.{RingOn, Element, same_element}
+use Rattle.ring_core.proofs.Coefficients.{coeff_past, elem_read}
+use Rattle.ring_core.proofs.ListRing.{poly_ring}
+use Rattle.linear_algebra.specs.Linear.{row_at, entry, is_row, are_rows}
+use Rattle.linear_algebra.proofs.Sums.{combine, combine_same}
+use Rattle.linear_algebra.proofs.Dependent.{Dependence, dependence}
+use Rattle.linear_algebra.proofs.Augment.{beside_low, beside_past}
+use Rattle.linear_algebra.specs.steps.Slots.{beside}
+use Rattle.linear_algebra.proofs.RowLists.{rows_at, row_len, row_elems}
+use Rattle.poly_reduce.specs.Matrices.{IsRelationRow, IsRowBasis}
+use Rattle.frobenius_rel.proofs.Values.{value_is}
+use Rattle.relation_theory.proofs.Relations.{IsRel}
+use Rattle.relation_theory.proofs.PolyEuclid.{polys, poly_euclidean, unit_length}
+use Rattle.relation_theory.proofs.Least.{IsLeast, least_is_monic}
+use Rattle.relation_theory.proofs.Bases.{IsBasisOfRelations, least_of_basis}
+use Rattle.frobenius_rel.proofs.ListBases.{basis_rows, basis_entry, is_basis_for}
+use Rattle.finite_ring.proofs.Powers.{power}
+use Rattle.relation_theory.proofs.PowerRelations.{power_sum, IsCoordinates, power_rows, power_rows_is, power_rows_past, moves, value_zero, least_long, least_none}
+use Rattle.frobenius_rel.specs.steps.FirstRelation.{IsFirstRelation}
+use Rattle.motive_coords.proofs.Ores.{twisted}
+use Rattle.motive_coords.proofs.OverT.{acting, coordinate_row, frob_of, coordinates}
+
+-- An empty basis: zero is the only relation.
+pub none_of_empty : {M : Type 0} (R : RingOn M) (rows : ℕ → ℕ → M) (n : ℕ) (basis : ℕ → ℕ → M) → IsBasisOfRelations R rows n 0 basis → (c : ℕ → M) → IsRel R rows n c → (i : ℕ) → c i ≡ R.zero
+none_of_empty R rows n basis s c t i = (s.spans c t).is i
+
+module _ {E B : Type 0} (r : RingOps E) (inv : E → Option E) (base : RingOps B) (binv : B → Option B) (f : FrobOps E B)
+    (k : IsField r inv) (kb : IsField base binv) (l : IsFrobField r base f)
+    (b : Element (twisted_ops r f.frob)) (d : ℕ) (degree : length b.0 ≡ suc d) (pos : 1 ≤ d) where
+  abbrev pub S : RingOn (Element (twisted_ops r f.frob))
+  S = twisted r inv base f k l
+
+  abbrev pub A : RingOn (Element (twisted_ops base (λ c i. c)))
+  A = polys base binv kb
+
+  abbrev pub acts : Element (twisted_ops base (λ c i. c)) → Element (twisted_ops r f.frob)
+  acts = acting r inv base binv f k kb l b d degree pos
+
+  abbrev pub x : Element (twisted_ops r f.frob)
+  x = frob_of r inv base binv f k kb l b d degree pos
+
+  abbrev pub rows : Element (twisted_ops r f.frob) → ℕ → Element (twisted_ops base (λ c i. c))
+  rows = coordinate_row r inv base binv f k kb l b d degree pos
+
+  abbrev pub are_coordinates : IsCoordinates S A acts x (d * f.degree) rows
+  are_coordinates = coordinates r inv base binv f k kb l b d degree pos
+
+  -- the coordinates of the first `n` powers of Frobenius, as a list of rows
+  pub record ArePowerRows (n : ℕ) (list : List (List (List B))) : Type 0 where
+    pub count : length list ≡ n
+    pub is : (i : ℕ) → i < n → (j : ℕ) → entry (twisted_ops base (λ c i. c)) list i j ≡ (power_rows S A acts x (d * f.degree) rows are_coordinates i j).0
+
+  pub row_is : (n i j : ℕ) → i ≡ n → (rows (power S x n) j).0 ≡ (power_rows S A acts x (d * f.degree) rows are_coordinates i j).0
+  row_is n i j e =
+      ap (λ (t : Element (twisted_ops base (λ c i. c))). t.0) (sym (power_rows_is S A acts x (d * f.degree) rows are_coordinates n j))
+      ∙ ap (λ m. (power_rows S A acts x (d * f.degree) rows are_coordinates m j).0) (sym e)
+
+  -- only zero is a relation of the first `n` powers
+  abbrev pub HasNone : ℕ → Type 0
+  HasNone n = (c : ℕ → Element (twisted_ops base (λ c i. c))) → IsRel A (power_rows S A acts x (d * f.degree) rows are_coordinates) n c → (i : ℕ) → c i ≡ A.zero
+
+  pub none_at_start : HasNone 0
+  none_at_start c s i = s.past i (omega arith)
+
+  -- the number of coordinates bounds the number of powers without a relation
+  pub none_ends : HasNone (suc (d * f.degree)) → ⊥
+  none_ends none = s.nonzero (sym (beside_low (suc (d * f.degree)) s.by (λ _. A.zero) s.at s.within) ∙ none cut cut_is s.at)
+    where
+      v : ℕ → ℕ → Element (twisted_ops base (λ c i. c))
+      v = power_rows S A acts x (d * f.degree) rows are_coordinates
+
+      s : Dependence A (suc (d * f.degree)) v
+      s = dependence A (poly_euclidean base binv kb).domain (suc (d * f.degree)) (d * f.degree) v (omega arith) (λ i _ j m. power_rows_past S A acts x (d * f.degree) rows are_coordinates i j m)
+
+      cut : ℕ → Element (twisted_ops base (λ c i. c))
+      cut = beside (suc (d * f.degree)) s.by (λ _. A.zero)
+
+      cut_is : IsRel A v (suc (d * f.degree)) cut
+      cut_is = record {
+        past = λ i m. beside_past (suc (d * f.degree)) s.by (λ _. A.zero) i m;
+        is = λ j. combine_same A (suc (d * f.degree)) cut s.by v j (beside_low (suc (d * f.degree)) s.by (λ _. A.zero)) ∙ s.is j;
+      }
+
+  module _ (n : ℕ) (none : HasNone n) (more basis : List (List (List B))) (rows_are : ArePowerRows (suc n) more)
+      (inside : are_rows (twisted_ops base (λ c i. c)) (d * f.degree) more ≡ true)
+      (found : IsRowBasis (twisted_ops base (λ c i. c)) (length more) (IsRelationRow (twisted_ops base (λ c i. c)) (d * f.degree) more) basis) where
+    abbrev p : RingOps (List B)
+    p = twisted_ops base (λ c i. c)
+
+    abbrev ring : IsRing (twisted_ops base (λ c i. c))
+    ring = poly_ring base kb.ring kb.one_ne_zero
+
+    abbrev v : ℕ → ℕ → Element (twisted_ops base (λ c i. c))
+    v = power_rows S A acts x (d * f.degree) rows are_coordinates
+
+    more_same : (i : ℕ) → i < length more → (j : ℕ) → entry p more i j ≡ (v i j).0
+    more_same i m j = rows_are.is i (let e = rows_are.count in omega (arith, e, m)) j
+
+    basis_is : IsBasisOfRelations A v (suc n) (length basis) (basis_rows p ring (d * f.degree) more basis inside found v more_same)
+    basis_is = is_basis_for p ring (d * f.degree) more basis inside found v more_same (suc n) rows_are.count
+
+    -- an empty basis: none of one more
+    pub none_more : length basis ≡ 0 → HasNone (suc n)
+    none_more e c t i = (basis_is.spans c t).is i ∙ ap (λ m. combine A m (basis_is.spans c t).by (basis_rows p ring (d * f.degree) more basis inside found v more_same) i) e
+
+    -- The first member of the basis.
+    first : ℕ → Element (twisted_ops base (λ c i. c))
+    first = basis_rows p ring (d * f.degree) more basis inside found v more_same 0
+
+    first_at : (i : ℕ) → (first i).0 ≡ coeff p (row_at basis 0) i
+    unfolding first
+    first_at i = basis_entry p ring (d * f.degree) more basis inside found v more_same 0 i
+
+    module _ (some : 0 < length basis) where
+      least_basis : IsLeast A v n first
+      unfolding first
+      least_basis =
+          least_of_basis A (poly_euclidean base binv kb).domain v n none
+          (length basis) (basis_rows p ring (d * f.degree) more basis inside found v more_same) basis_is some
+
+      top_constant : length (coeff p (row_at basis 0) n) ≡ 1
+      top_constant =
+          let u = least_is_monic A (λ t. length t.0) (poly_euclidean base binv kb) v (moves S A acts x (d * f.degree) rows are_coordinates) n first least_basis (d * f.degree) (power_rows_past S A acts x (d * f.degree) rows are_coordinates) in
+          ap length (sym (first_at n)) ∙ unit_length base binv kb (first n) u.0 u.1
+
+      shape : is_row p (length more) (row_at basis 0) ≡ true
+      shape = rows_at p (length more) basis found.shape 0 some
+
+      len : length (row_at basis 0) ≡ suc n
+      len = row_len p (length more) (row_at basis 0) shape ∙ rows_are.count
+
+      -- The first member of the basis is the first relation.
+      pub first_relation : IsFirstRelation r base f b.0 (row_at basis 0)
+      first_relation = record {
+        elems = row_elems p (length more) (row_at basis 0) shape;
+        long = let m = least_long S A acts x (d * f.degree) rows are_coordinates (λ t. length t.0) (poly_euclidean base binv kb) n first least_basis in let e = len in omega (arith, m, e);
+        top = let place : length (row_at basis 0) - 1 ≡ n = (let e = len in omega (arith, e)) in ap (λ i. length (coeff p (row_at basis 0) i)) place ∙ top_constant;
+        is =
+            sym (value_is r inv base binv f k kb l b d degree pos (row_at basis 0) first (λ i _. first_at i))
+            ∙ ap (λ t. (power_sum S acts x t first).0) len
+            ∙ ap (λ t. t.0) (value_zero S A acts x (d * f.degree) rows are_coordinates (suc n) first least_basis.relation.is);
+        least = λ c ci short zero i.
+            ap (λ t. t.0) (least_none S A acts x (d * f.degree) rows are_coordinates (λ t. length t.0) (poly_euclidean base binv kb) n first least_basis (length c)
+            (λ j. (coeff p c j, elem_read p c refl ci j)) (let e = len in omega (arith, short, e)) (λ j m. same_element p _ _ (coeff_past p c j m))
+            (same_element (twisted_ops r f.frob) _ _ (value_is r inv base binv f k kb l b d degree pos c (λ j. (coeff p c j, elem_read p c refl ci j)) (λ j m. refl) ∙ zero)) i);
+      }

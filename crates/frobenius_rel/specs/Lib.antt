@@ -1,0 +1,3 @@
+pub mod Relation
+pub mod RankPower
+pub mod steps
