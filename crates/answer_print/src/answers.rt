@@ -1,36 +1,17 @@
 //! Whole answers.
-ghost use Rattle.std.specs.Prelude.{◌≡◌, ◌++◌, [], ◌∷◌, None, Some, codes, decimal, IfOk, OnOk, OnErr};
-ghost use Rattle.answer.specs.Texts.{text_of, text_over, field_of, value_text, truth_text, line};
+ghost use Rattle.std.specs.Prelude.{◌≡◌, ◌++◌, None, Some, codes, IfOk, OnOk, OnErr};
+ghost use Rattle.answer.specs.Texts.{text_of, text_over, field_of, line, value_text};
 
-use super::elements::{write_element, write_module, write_polynomial, write_twisted};
-use super::terms::write_number;
+use super::elements::{write_module, write_polynomial, write_twisted};
+use super::lines::{
+    write_cofactors, write_division, write_element_line, write_module_line, write_number_line,
+    write_truth, write_twisted_line,
+};
 use answer::{Answer, Printing, Value};
 use field_tower::Tower;
 use ring_core::{FrobField, NoMemory};
+use script_lang::Name;
 use std::alloc::Global;
-
-/// Appends a label, a number in decimal and a line feed.
-fn write_number_line(into: &mut Vec<u8>, label: &[u8], n: u32) -> Result<(), NoMemory>
-    ensures { OnOk result (into.new.items ≡ into.old.items ++ line label.now (decimal n)) }
-{
-    into.extend_from_slice(label)?;
-    write_number(into, n as usize)?;
-    into.extend_from_slice(b"\n")?;
-    Ok(())
-}
-
-/// Appends the line of a yes or a no.
-fn write_truth(into: &mut Vec<u8>, yes: bool) -> Result<(), NoMemory>
-    ensures { OnOk result (into.new.items ≡ into.old.items ++ line [] (truth_text yes)) }
-{
-    let text = if yes {
-        b"yes\n".as_slice()
-    } else {
-        b"no\n".as_slice()
-    };
-    into.extend_from_slice(text)?;
-    Ok(())
-}
 
 /// Appends what a name stands for.
 fn write_value(
@@ -47,6 +28,24 @@ fn write_value(
     }
 }
 
+/// Appends the line of a new name and what it stands for.
+fn write_named(
+    alloc: Global,
+    into: &mut Vec<u8>,
+    top: &Tower,
+    name: &Name,
+    value: &Value,
+) -> Result<(), NoMemory>
+    ensures { OnOk result (into.new.items ≡ into.old.items
+        ++ line (name.now.bytes ++ codes " = ") (value_text top.now value.now)) }
+{
+    into.extend_from_slice(name.bytes.as_slice())?;
+    into.extend_from_slice(b" = ")?;
+    write_value(alloc, into, top, value)?;
+    into.extend_from_slice(b"\n")?;
+    Ok(())
+}
+
 /// The lines of an answer without elements; nothing for another.
 #[tactic(auto, unfolding(answer::specs::Texts::text_over))]
 fn write_plain(into: &mut Vec<u8>, answer: &Answer) -> Result<(), NoMemory>
@@ -57,6 +56,7 @@ fn write_plain(into: &mut Vec<u8>, answer: &Answer) -> Result<(), NoMemory>
         Answer::N(n) => write_number_line(into, b"n = ", *n),
         Answer::Number(n) => write_number_line(into, b"", *n),
         Answer::Truth(yes) => write_truth(into, *yes),
+        Answer::NoneZero => Ok(into.extend_from_slice(b"no quotient: zero\n")?),
         _ => Ok(()),
     }
 }
@@ -72,19 +72,32 @@ fn write_over(
     ensures { OnOk result (into.new.items ≡ into.old.items ++ text_over (Some top.now) answer.now) }
 {
     match answer {
-        Answer::Named(name, value) => {
-            into.extend_from_slice(name.bytes.as_slice())?;
-            into.extend_from_slice(b" = ")?;
+        Answer::Named(name, value) => write_named(alloc, into, top, name, value),
+        Answer::Shown(value) => {
             write_value(alloc, into, top, value)?;
+            Ok(into.extend_from_slice(b"\n")?)
         }
-        Answer::Shown(value) => write_value(alloc, into, top, value)?,
-        Answer::BasePoly(list) => write_polynomial(alloc, into, top.base(), list.as_slice())?,
-        Answer::Element(c) => write_element(alloc, into, top, *c)?,
-        Answer::Twisted(u) => write_twisted(alloc, into, top, u.as_slice())?,
-        _ => return write_plain(into, answer),
+        Answer::BasePoly(list) => {
+            write_polynomial(alloc, into, top.base(), list.as_slice())?;
+            Ok(into.extend_from_slice(b"\n")?)
+        }
+        Answer::Element(c) => write_element_line(alloc, into, top, b"", *c),
+        Answer::Twisted(u) => write_twisted_line(alloc, into, top, b"", u),
+        Answer::Division {
+            quotient,
+            remainder,
+        } => write_division(alloc, into, top, quotient, remainder),
+        Answer::Common(c) => write_cofactors(alloc, into, top, b"divisor ", &c.d, &c.s, &c.w),
+        Answer::Multiple(m) => write_cofactors(alloc, into, top, b"multiple ", &m.m, &m.s, &m.w),
+        Answer::Quotient(phi) => write_module_line(alloc, into, top, b"quotient ", phi),
+        Answer::NoneRemainder(rest) => {
+            write_twisted_line(alloc, into, top, b"no quotient: remainder ", rest)
+        }
+        Answer::NoneConstant(c) => {
+            write_element_line(alloc, into, top, b"no quotient: constant ", *c)
+        }
+        _ => write_plain(into, answer),
     }
-    into.extend_from_slice(b"\n")?;
-    Ok(())
 }
 
 /// The text of an answer in a field.

@@ -3,6 +3,7 @@
 
 mod answers;
 mod elements;
+mod lines;
 mod printer;
 mod sums;
 mod terms;

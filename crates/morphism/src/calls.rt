@@ -1,6 +1,6 @@
-ghost use Rattle.std.specs.Prelude.{◌≡◌, IfOk, MatchOption, true};
+ghost use Rattle.std.specs.Prelude.{◌≡◌, ◌↔◌, IfOk, IsTrue, MatchOption, true};
 ghost use Rattle.ring_core.specs.Coeffs.{is_canonical};
-ghost use Rattle.ring_core.specs.Twisted.{list_add, list_mul, twisted_ops};
+ghost use Rattle.ring_core.specs.Twisted.{list_add, list_mul};
 ghost use Rattle.drinfeld_mod.specs.Module.{IsModule, constant_of};
 ghost use Rattle.drinfeld_mod.specs.Image.{image};
 ghost use Rattle.morphism.specs.Homomorphism.{IsHomomorphism};
@@ -12,6 +12,27 @@ use fq_poly::Poly;
 use ore_poly::{Ore, OreRing};
 use ring_core::{B, E, FrobField, NoMemory, Ring};
 use std::alloc::Global;
+
+/// Whether `u` is a homomorphism from `phi` to `psi`: whether `u phi_T` and `psi_T u` are equal.
+pub fn is_homomorphism<K: FrobField>(
+    alloc: Global,
+    field: &K,
+    phi: &Module<E<K>>,
+    psi: &Module<E<K>>,
+    u: &Ore<E<K>>,
+) -> Result<bool, NoMemory>
+    requires source { IsModule (K.ops field.now) phi.now }
+    requires target { IsModule (K.ops field.now) psi.now }
+    requires candidate { is_canonical (K.ops field.now) u.now ≡ true }
+    ensures { IfOk result (λ yes. IsTrue yes ↔ IsHomomorphism (K.ops field.now) (K.frob_ops field.now).frob phi.now psi.now u.now) }
+{
+    let ring = OreRing::new(field);
+    let source = as_ore(alloc, field, phi)?;
+    let target = as_ore(alloc, field, psi)?;
+    let left = ring.mul(alloc, u, &source)?;
+    let right = ring.mul(alloc, &target, u)?;
+    Ok(ring.equal(&left, &right))
+}
 
 /// The homomorphism `u` from `phi` to `psi`, two modules with the same constant, as a value that holds copies of
 /// all three (the SageMath reference manual, chapter Drinfeld modules); None exactly where `u phi_T` differs from
@@ -31,36 +52,13 @@ pub fn check<K: FrobField>(
         IfOk result (λ o. MatchOption o (IsHomomorphism r frob phi.now psi.now u.now → ⊥)
         (λ m. (m ≡ arrow u.now phi.now psi.now) × IsMorphism r frob m)) }
 {
-    if !commutes(alloc, field, phi, psi, u)? {
+    if !is_homomorphism(alloc, field, phi, psi, u)? {
         return Ok(None);
     }
     let u = OreRing::new(field).copy(alloc, u)?;
     let from = phi.copied(alloc)?;
     let to = psi.copied(alloc)?;
     Ok(Some(Morphism { u, from, to }))
-}
-
-/// Whether `u phi_T` and `psi_T u` are equal.
-fn commutes<K: FrobField>(
-    alloc: Global,
-    field: &K,
-    phi: &Module<E<K>>,
-    psi: &Module<E<K>>,
-    u: &Ore<E<K>>,
-) -> Result<bool, NoMemory>
-    requires source { IsModule (K.ops field.now) phi.now }
-    requires target { IsModule (K.ops field.now) psi.now }
-    requires candidate { is_canonical (K.ops field.now) u.now ≡ true }
-    ensures { IfOk result
-        (λ yes. yes ≡ (twisted_ops (K.ops field.now) (K.frob_ops field.now).frob).same (list_mul (K.ops field.now) (K.frob_ops field.now).frob u.now phi.now)
-        (list_mul (K.ops field.now) (K.frob_ops field.now).frob psi.now u.now)) }
-{
-    let ring = OreRing::new(field);
-    let source = as_ore(alloc, field, phi)?;
-    let target = as_ore(alloc, field, psi)?;
-    let left = ring.mul(alloc, u, &source)?;
-    let right = ring.mul(alloc, &target, u)?;
-    Ok(ring.equal(&left, &right))
 }
 
 /// The composition of `u` and then `v`, where the source of `v` is the target of `u`: the product `v u` as twisted

@@ -5,5 +5,5 @@ mod calls;
 pub mod laws;
 mod value;
 
-pub use calls::{act, add, check, compose};
+pub use calls::{act, add, check, compose, is_homomorphism};
 pub use value::Morphism;

@@ -2,6 +2,7 @@
 #![tactic(auto)]
 
 mod fields;
+pub mod laws;
 mod letters;
 mod operands;
 mod poly;
@@ -9,6 +10,6 @@ mod powers;
 mod value;
 
 pub use letters::Letters;
-pub use operands::{base_modulus, list_values, top_modulus, twisted_sum};
+pub use operands::{base_modulus, base_polynomial, list_values, twisted_sum};
 pub use poly::poly_value;
 pub use value::sum_values;

@@ -4,7 +4,7 @@ ghost use Rattle.ring_core.specs.Coeffs.{are_elems, is_canonical};
 ghost use Rattle.residue_field.specs.Prime.{is_listed, prime_ops};
 ghost use Rattle.residue_field.specs.Base.{ops_of};
 ghost use Rattle.residue_field.specs.Top.{ops_of_top};
-ghost use Rattle.operand_value.specs.Operands.{base_modulus, top_modulus, list_values, twisted_sum};
+ghost use Rattle.operand_value.specs.Operands.{base_modulus, base_polynomial, list_values, twisted_sum};
 
 use super::poly::poly_value;
 use super::value::sum_values;
@@ -42,10 +42,11 @@ pub fn base_modulus(alloc: Global, p: u32, modulus: &Option<Sum>) -> Result<Vec<
     numbers(alloc, &list)
 }
 
-/// The modulus of a top field, lowest coefficient first: the polynomial in `z` that is typed.
+/// The polynomial over a base that is typed, lowest coefficient first: in `z` the modulus of a top field,
+/// or in `T`.
 #[tactic(auto, unfolding(crate::specs::Operands::base_polynomial))]
-pub fn top_modulus(alloc: Global, base: &BaseField, sum: &Sum) -> Result<Vec<Code>, NoMemory>
-    ensures value { IfOk result (λ v. v.items ≡ top_modulus base.now sum.now) }
+pub fn base_polynomial(alloc: Global, base: &BaseField, sum: &Sum) -> Result<Vec<Code>, NoMemory>
+    ensures value { IfOk result (λ v. v.items ≡ base_polynomial base.now sum.now) }
     ensures elem { IfOk result (λ v. is_canonical (ops_of base.now) v.items ≡ true) }
 {
     poly_value(alloc, base, sum)

@@ -1,35 +1,9 @@
--- Equality of lists of elements, and whether a finite ring has two nonzero elements whose product is zero,
--- are decided.
+-- Whether a finite ring has two nonzero elements whose product is zero is decided.
 use Rattle.std.proofs.Common.{◌≡◌, ◌≢◌, ◌⊎◌, inl, inr, ℕ, zero, suc, ◌<◌, ◌&&◌, not, Bool, true, false, List, [], ◌∷◌, refl, sym, ap, ap₂, subst, ◌∙◌, arith}
 use Rattle.std.proofs.lemmas.Bool.{and_parts, and_from, false_from_ne_true, false≢true, cases_eq}
 use Rattle.ring_core.specs.Ring.{RingOps, IsElem, IsRing, IsNumbered}
-use Rattle.residue_field.specs.declared.TopElem.{TopElem}
 use Rattle.finite_ring.specs.Finite.{HasNoPair}
 use Rattle.field_tower.specs.Pairs.{IsPair}
-use Rattle.statement_work.specs.Refusals.{is_nil}
-
-abbrev rest_of : {A : Type 0} → List A → List A
-rest_of [] = []
-rest_of (x ∷ xs) = xs
-
-abbrev first_or : {A : Type 0} → A → List A → A
-first_or d [] = d
-first_or d (x ∷ xs) = x
-
-same_or : {A : Type 0} → ((x y : A) → (x ≡ y) ⊎ (x ≢ y)) → (xs ys : List A) → (xs ≡ ys) ⊎ (xs ≢ ys)
-same_or dec [] [] = inl refl
-same_or dec [] (y ∷ ys) = inr (λ e. false≢true (sym (ap is_nil e)))
-same_or dec (x ∷ xs) [] = inr (λ e. false≢true (ap is_nil e))
-same_or dec (x ∷ xs) (y ∷ ys) = elim (dec x y) [
-  | inl e ↦ elim (same_or dec xs ys) [ inl t ↦ inl (ap₂ (λ a b. a ∷ b) e t) | inr n ↦ inr (λ h. n (ap rest_of h)) ]
-  | inr n ↦ inr (λ h. n (ap (first_or x) h))
-]
-
-same_element : (x y : TopElem) → (x ≡ y) ⊎ (x ≢ y)
-same_element x y = elim (same_or cases_eq x.0 y.0) [ inl e ↦ inl (ap (λ l. record { 0 = l }) e) | inr n ↦ inr (λ h. n (ap (λ c. c.0) h)) ]
-
-pub same_elements : (xs ys : List TopElem) → (xs ≡ ys) ⊎ (xs ≢ ys)
-same_elements = same_or same_element
 
 -- Some number below `n` is such, or none is.
 below_or_at : (k n : ℕ) → k < suc n → (k < n) ⊎ (k ≡ n)
@@ -45,7 +19,7 @@ found P dec (suc n) = elim (dec n) [
   ]
 ]
 
-pub decided : (b : Bool) → (b ≡ true) ⊎ (b ≡ true → ⊥)
+decided : (b : Bool) → (b ≡ true) ⊎ (b ≡ true → ⊥)
 decided true = inl refl
 decided false = inr false≢true
 

@@ -37,60 +37,25 @@ use Rattle.statement_operands.specs.declared.Need.{Need}
 use Rattle.statement_operands.specs.declared.Need.TheVariants as need
 use Rattle.statement_operands.specs.declared.Stop.{Stop}
 use Rattle.statement_operands.specs.declared.Stop.TheVariants as stop
-use Rattle.statement_operands.specs.Asked.{is_unknown, unknown_name}
+use Rattle.statement_operands.specs.Asked.{unknown_name, wrong_kind}
 use Rattle.statement_operands.specs.Demands.{demands}
 use Rattle.statement_operands.specs.Names.{value_of}
 use Rattle.statement_operands.specs.Values.{module_value, twisted_value}
 use Rattle.statement_work.specs.Built.{is_built}
 use Rattle.statement_work.specs.Refusals.{when}
 use Rattle.statement_work.specs.Results.{named_value}
-use Rattle.statement_work.specs.Works.{IsTruth, IsShown, Works}
+use Rattle.statement_work.proofs.Refused.{none_left, none_right}
+use Rattle.statement_work.proofs.SomeAnswer.{some_work}
 use Rattle.session.specs.Outcome.{HasOutcome}
 use Rattle.session.specs.Refusals.{is_monic, base_refusal, top_refusal, field_refusal, name_refusal, modulus_refusal, refusal_over, value_refusal, refusal}
+use Rattle.session.specs.Sound.{is_sound}
 use Rattle.session.specs.State.{State}
 use Rattle.session.specs.Steps.{HasBasePair, HasTopPair, IsReducible, StopsAfter, Stops, SetsBase, SetsTop, SetsField, GivesOver, Answers, with_name}
-use Rattle.session.proofs.Decided.{same_elements, decided, pair_or_none}
-use Rattle.session.proofs.Granted.{none_left, none_right, not_when, granted}
+use Rattle.session.proofs.Decided.{pair_or_none}
+use Rattle.session.proofs.Granted.{granted}
 use Rattle.session.proofs.Monic.{told_monic}
-use Rattle.session.proofs.Stepping.{needs_top}
-
--- The work of a form that is answered gives an answer.
-truth_of : (P : Type 0) → P ⊎ (P → ⊥) → (a : Answer) × IsTruth a P
-truth_of P d = elim d [
-  | inl p ↦ (answer.Truth true, (true, refl, (λ t. p, λ q. refl)))
-  | inr n ↦ (answer.Truth false, (false, refl, (λ t. absurd (false≢true t), λ q. absurd (n q))))
-]
-
-homomorphism_or : (r : RingOps TopElem) (frob : TopElem → ℕ → TopElem) (phi psi u : List TopElem) → IsHomomorphism r frob phi psi u ⊎ (IsHomomorphism r frob phi psi u → ⊥)
-homomorphism_or r frob phi psi u = elim (decided (is_canonical r u)) [
-  | inl canonical ↦ elim (same_elements (list_mul r frob u phi) (list_mul r frob psi u)) [
-    | inl same ↦ inl (record { canonical = canonical; commutes = same })
-    | inr other ↦ inr (λ h. other h.commutes)
-  ]
-  | inr none ↦ inr (λ h. none h.canonical)
-]
-
-shown : (v : Option Value) → not (is_some v) ≡ false → (a : Answer) × IsShown v a
-shown None h = absurd (false≢true (sym h))
-shown (Some v) h = (answer.Shown v, refl)
-
-abbrev is_top_need : Need → Bool
-is_top_need need.ATop = true
-is_top_need n = false
-
-works : (t : Top) (ns : List (List ℕ × Value)) (f : Form) → is_built f ≡ true → (demands f).field ≡ need.ATop → unknown_name ns (demands f) ≡ false → (a : Answer) × Works t ns f a
-works t ns (form.Base p s modulus) built over known = absurd (false≢true (ap is_top_need over))
-works t ns (form.Over n modulus) built over known = absurd (false≢true (ap is_top_need over))
-works t ns (form.Module name list) built over known = (answer.Named name (value.Module (list_values t list)), refl)
-works t ns (form.Ore name u) built over known = (answer.Named name (value.Ore (twisted_value t ns u)), refl)
-works t ns (form.Show name) built over known = shown (value_of ns name.bytes) known
-works t ns (form.Rank m) built over known = (_, refl)
-works t ns (form.Check m n u) built over known =
-    truth_of _ (homomorphism_or (ops_of_top t) (frob_of_top t).frob (module_value t ns m) (module_value t ns n) (twisted_value t ns u))
-works t ns (form.Add u v name) built over known = (_, refl)
-works t ns (form.Sub u v name) built over known = (_, refl)
-works t ns (form.Mul u v name) built over known = (_, refl)
-works t ns f built over known = absurd (false≢true built)
+use Rattle.session.proofs.Operands.{work_free, form_operands}
+use Rattle.session.proofs.Stepping.{needs_top, demands_fit}
 
 passed_test : (b : Bool) (x : Stop) → when (not b) x ≡ None → b ≡ true
 passed_test true x h = refl
@@ -172,30 +137,32 @@ base_rest k ns (form.Over n m) built within asked free =
 base_rest k ns f built within asked free = absurd (none-some meaning.FieldMissing (sym asked))
 
 rest : (k : FieldState) (ns : List (List ℕ × Value)) (f : Form) → is_built f ≡ true → IsWithin version_1 f → field_refusal (demands f).field k ≡ None
-    → unknown_name ns (demands f) ≡ false → value_refusal k ns f ≡ None → Rest k ns f
-rest field.Nothing ns f built within asked known free = nothing_rest ns f built within asked free
-rest (field.Base k) ns f built within asked known free = base_rest k ns f built within asked free
-rest (field.Top t) ns f built within asked known free =
-    let w = works t ns f built (needs_top _ t asked) known in
-    inr (w.0, (record { field = field.Top t; names = with_name (demands f).gives (named_value w.0) ns }, (w.1, refl)))
+    → unknown_name ns (demands f) ≡ false → wrong_kind ns (demands f) ≡ false → is_sound k ns ≡ true → value_refusal k ns f ≡ None → Rest k ns f
+rest field.Nothing ns f built within asked known kind sound free = nothing_rest ns f built within asked free
+rest (field.Base k) ns f built within asked known kind sound free = base_rest k ns f built within asked free
+rest (field.Top t) ns f built within asked known kind sound free =
+    let parts = work_free t ns f free in
+    let operands = form_operands t ns sound (demands f) known kind (demands_fit f within) parts.0 in
+    let w = some_work t ns f operands built (needs_top _ t asked) known parts.1 in
+    inr (w.0, (record { field = field.Top t; names = with_name (demands f).gives (named_value w.0) ns }, (operands, w.1, refl)))
 
 unmapped : {A B : Type 0} (g : A → B) (o : Option A) → option_map g o ≡ None → o ≡ None
 unmapped g None h = refl
 unmapped g (Some x) h = absurd (none-some (g x) (sym h))
 
-after_refusal : (st : State) (f : Form) → IsWithin version_1 f → refusal st f ≡ None → HasOutcome st f
-after_refusal st f within free =
+after_refusal : (st : State) (f : Form) → is_sound st.field st.names ≡ true → IsWithin version_1 f → refusal st f ≡ None → HasOutcome st f
+after_refusal st f sound within free =
     let built : is_built f ≡ true = passed_test _ _ (none_left _ _ free) in
     let later = none_right _ _ free in
     let names = granted st (demands f) (unmapped (λ k. stop.Meaning k) _ (none_left _ _ later)) in
-    elim (rest st.field st.names f built within names.field names.known (none_right _ _ later)) [
+    elim (rest st.field st.names f built within names.field names.known names.kind sound (none_right _ _ later)) [
       | inl stops ↦ inl (stops.0, subst (λ o. StopsAfter o stops.0 (IsReducible st.field f stops.0)) (sym free) stops.1)
       | inr gives ↦ inr (gives.0, (gives.1.0, (free, gives.1.1)))
     ]
 
-by_refusal : (st : State) (f : Form) → IsWithin version_1 f → (o : Option Stop) → refusal st f ≡ o → HasOutcome st f
-by_refusal st f within None is = after_refusal st f within is
-by_refusal st f within (Some c) is = inl (c, subst (λ o. StopsAfter o c (IsReducible st.field f c)) (sym is) refl)
+by_refusal : (st : State) (f : Form) → is_sound st.field st.names ≡ true → IsWithin version_1 f → (o : Option Stop) → refusal st f ≡ o → HasOutcome st f
+by_refusal st f sound within None is = after_refusal st f sound within is
+by_refusal st f sound within (Some c) is = inl (c, subst (λ o. StopsAfter o c (IsReducible st.field f c)) (sym is) refl)
 
-pub outcome : (st : State) (f : Form) → IsWithin version_1 f → HasOutcome st f
-outcome st f within = by_refusal st f within (refusal st f) refl
+pub outcome : (st : State) (f : Form) → is_sound st.field st.names ≡ true → IsWithin version_1 f → HasOutcome st f
+outcome st f sound within = by_refusal st f sound within (refusal st f) refl

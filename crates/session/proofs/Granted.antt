@@ -1,24 +1,10 @@
 -- What follows where nothing is refused before the values.
-use Rattle.std.proofs.Common.{◌≡◌, Bool, true, false, Option, Some, None, refl, sym}
-use Rattle.std.specs.Option.{option_or}
-use Rattle.std.proofs.lemmas.Option.{none-some}
+use Rattle.std.proofs.Common.{◌≡◌, false, None}
 use Rattle.statement_operands.specs.Asked.{unknown_name, wrong_kind, name_taken}
 use Rattle.statement_operands.specs.Demands.{Demands}
-use Rattle.statement_work.specs.Refusals.{when}
+use Rattle.statement_work.proofs.Refused.{none_left, none_right, not_when}
 use Rattle.session.specs.State.{State}
 use Rattle.session.specs.Refusals.{field_refusal, name_refusal}
-
-pub none_left : {A : Type 0} (a b : Option A) → option_or a b ≡ None → a ≡ None
-none_left None b h = refl
-none_left (Some x) b h = h
-
-pub none_right : {A : Type 0} (a b : Option A) → option_or a b ≡ None → b ≡ None
-none_right None b h = h
-none_right (Some x) b h = absurd (none-some x (sym h))
-
-pub not_when : {A : Type 0} (b : Bool) (x : A) → when b x ≡ None → b ≡ false
-not_when true x h = absurd (none-some x (sym h))
-not_when false x h = refl
 
 pub record IsGranted (st : State) (d : Demands) : Type 0 where
   pub field : field_refusal d.field st.field ≡ None

@@ -55,8 +55,8 @@ field_once k f a b x y h g = absurd h
 
 gives_once : (o : Option Top) (st : State) (f : Form) (a b : Answer) (m n : State) → GivesOver o st f a m → GivesOver o st f b n → (a ≡ b) × (m ≡ n)
 gives_once (Some t) st f a b m n h g =
-    let e = one_work t st.names f a b h.0 g.0 in
-    (e, h.1 ∙ ap (λ x. record { field = st.field; names = with_name (demands f).gives (named_value x) st.names }) e ∙ sym g.1)
+    let e = one_work t st.names f a b h.0 h.1 g.1 in
+    (e, h.2 ∙ ap (λ x. record { field = st.field; names = with_name (demands f).gives (named_value x) st.names }) e ∙ sym g.2)
 gives_once None st f a b m n h g =
     let e = field_once st.field f a b h.0 g.0 h.1 g.1 in
     (e.0, h.2 ∙ ap (λ k. record { field = k; names = st.names }) e.1 ∙ sym g.2)

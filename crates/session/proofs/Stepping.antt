@@ -24,6 +24,7 @@ use Rattle.statement_operands.specs.declared.Stop.{Stop}
 use Rattle.statement_operands.specs.declared.Stop.TheVariants as stop
 use Rattle.statement_operands.specs.Demands.{Demands, demands}
 use Rattle.statement_operands.specs.Fits.{OperandFits, DemandsFit}
+use Rattle.statement_operands.specs.Resolved.{AreOperands}
 use Rattle.statement_work.specs.Built.{is_built}
 use Rattle.statement_work.specs.Refusals.{when, is_nil, work_refusal}
 use Rattle.statement_work.specs.Results.{named_value}
@@ -113,19 +114,37 @@ operand_fits : (m : ModArg) → ModuleWithin version_1 m → OperandFits m
 operand_fits (module_operand.List list) within = within
 operand_fits (module_operand.Name n) within = tt
 
--- The lists of a form that is answered fit.
-pub demands_fit : (f : Form) → is_built f ≡ true → IsWithin version_1 f → DemandsFit (demands f)
-demands_fit (form.Base p s modulus) built within = record { phi_fits = tt; psi_fits = tt; list_fits = tt }
-demands_fit (form.Over n modulus) built within = record { phi_fits = tt; psi_fits = tt; list_fits = tt }
-demands_fit (form.Module name list) built within = record { phi_fits = tt; psi_fits = tt; list_fits = within }
-demands_fit (form.Ore name u) built within = record { phi_fits = tt; psi_fits = tt; list_fits = tt }
-demands_fit (form.Show name) built within = record { phi_fits = tt; psi_fits = tt; list_fits = tt }
-demands_fit (form.Rank m) built within = record { phi_fits = operand_fits m within; psi_fits = tt; list_fits = tt }
-demands_fit (form.Check m n u) built within = record { phi_fits = operand_fits m within.0; psi_fits = operand_fits n within.1; list_fits = tt }
-demands_fit (form.Add u v name) built within = record { phi_fits = tt; psi_fits = tt; list_fits = tt }
-demands_fit (form.Sub u v name) built within = record { phi_fits = tt; psi_fits = tt; list_fits = tt }
-demands_fit (form.Mul u v name) built within = record { phi_fits = tt; psi_fits = tt; list_fits = tt }
-demands_fit f built within = absurd (false≢true built)
+-- The lists of a form that passes no limit fit.
+pub demands_fit : (f : Form) → IsWithin version_1 f → DemandsFit (demands f)
+demands_fit (form.Base p s modulus) within = record { phi_fits = tt; psi_fits = tt; list_fits = tt }
+demands_fit (form.Over n modulus) within = record { phi_fits = tt; psi_fits = tt; list_fits = tt }
+demands_fit (form.Module name list) within = record { phi_fits = tt; psi_fits = tt; list_fits = within }
+demands_fit (form.Ore name u) within = record { phi_fits = tt; psi_fits = tt; list_fits = tt }
+demands_fit (form.Show name) within = record { phi_fits = tt; psi_fits = tt; list_fits = tt }
+demands_fit (form.Rank m) within = record { phi_fits = operand_fits m within; psi_fits = tt; list_fits = tt }
+demands_fit (form.Char m) within = record { phi_fits = operand_fits m within; psi_fits = tt; list_fits = tt }
+demands_fit (form.Height m) within = record { phi_fits = operand_fits m within; psi_fits = tt; list_fits = tt }
+demands_fit (form.Ordinary m) within = record { phi_fits = operand_fits m within; psi_fits = tt; list_fits = tt }
+demands_fit (form.Supersingular m) within = record { phi_fits = operand_fits m within; psi_fits = tt; list_fits = tt }
+demands_fit (form.J m k) within = record { phi_fits = operand_fits m within; psi_fits = tt; list_fits = tt }
+demands_fit (form.Image m a name) within = record { phi_fits = operand_fits m within.0; psi_fits = tt; list_fits = tt }
+demands_fit (form.Add u v name) within = record { phi_fits = tt; psi_fits = tt; list_fits = tt }
+demands_fit (form.Sub u v name) within = record { phi_fits = tt; psi_fits = tt; list_fits = tt }
+demands_fit (form.Mul u v name) within = record { phi_fits = tt; psi_fits = tt; list_fits = tt }
+demands_fit (form.Rdiv u v) within = record { phi_fits = tt; psi_fits = tt; list_fits = tt }
+demands_fit (form.Ldiv u v) within = record { phi_fits = tt; psi_fits = tt; list_fits = tt }
+demands_fit (form.Common u v) within = record { phi_fits = tt; psi_fits = tt; list_fits = tt }
+demands_fit (form.Multiple u v) within = record { phi_fits = tt; psi_fits = tt; list_fits = tt }
+demands_fit (form.Check m n u) within = record { phi_fits = operand_fits m within.0; psi_fits = operand_fits n within.1; list_fits = tt }
+demands_fit (form.Quotient m u name) within = record { phi_fits = operand_fits m within.0; psi_fits = tt; list_fits = tt }
+demands_fit (form.Iso m n) within = record { phi_fits = operand_fits m within.0; psi_fits = operand_fits n within.1; list_fits = tt }
+demands_fit (form.Isogenous m n) within = record { phi_fits = operand_fits m within.0; psi_fits = operand_fits n within.1; list_fits = tt }
+demands_fit (form.Bounded m n d) within = record { phi_fits = operand_fits m within.0; psi_fits = operand_fits n within.1; list_fits = tt }
+demands_fit (form.Full m n) within = record { phi_fits = operand_fits m within.0; psi_fits = operand_fits n within.1; list_fits = tt }
+demands_fit (form.Fullsize m n) within = record { phi_fits = operand_fits m within.0; psi_fits = operand_fits n within.1; list_fits = tt }
+demands_fit (form.Motive m u) within = record { phi_fits = operand_fits m within.0; psi_fits = tt; list_fits = tt }
+demands_fit (form.Frob m) within = record { phi_fits = operand_fits m within; psi_fits = tt; list_fits = tt }
+demands_fit (form.Frobpower m) within = record { phi_fits = operand_fits m within; psi_fits = tt; list_fits = tt }
 
 value_low : (k : FieldState) (ns : List (List ℕ × Value)) (f : Form) → top_of k ≡ None → value_refusal k ns f ≡ modulus_refusal k f
 value_low k ns f low = ap (λ o. refusal_over o k ns f) low
@@ -147,16 +166,17 @@ set_does st f (Err c) k low built free none sets same stops =
 pub over_does : (st : State) (f : Form) (t : Top) (r : Result Answer Stop) (ns : List (List ℕ × Value)) → st.field ≡ field.Top t → is_built f ≡ true
     → name_refusal st (demands f) ≡ None
     → IfOk r (λ a. (work_refusal t st.names f ≡ None) × Works t st.names f a × (ns ≡ with_name (demands f).gives (named_value a) st.names))
+    → IfOk r (λ a. AreOperands t st.names (demands f))
     → OnErr r (ns ≡ st.names)
     → IfErr r (λ c. c ≢ stop.NoMemory → work_refusal t st.names f ≡ Some c)
     → Does st f r (record { field = st.field; names = ns })
-over_does st f t (Ok a) ns is built free ok same stops =
+over_does st f t (Ok a) ns is built free ok operands same stops =
     let top : top_of st.field ≡ Some t = ap top_of is in
     let refuses = refusal_is st f built free ∙ ap (λ o. refusal_over o st.field st.names f) top in (
       refuses ∙ ok.0,
-      subst (λ o. GivesOver o st f a (record { field = st.field; names = ns })) (sym top) (ok.1, ap (λ x. record { field = st.field; names = x }) ok.2),
+      subst (λ o. GivesOver o st f a (record { field = st.field; names = ns })) (sym top) (operands, ok.1, ap (λ x. record { field = st.field; names = x }) ok.2),
     )
-over_does st f t (Err c) ns is built free ok same stops =
+over_does st f t (Err c) ns is built free ok operands same stops =
     let top : top_of st.field ≡ Some t = ap top_of is in
     let refuses = refusal_is st f built free ∙ ap (λ o. refusal_over o st.field st.names f) top in
     does_err st f c _ (ap (λ x. record { field = st.field; names = x }) same)

@@ -19,6 +19,7 @@ use Rattle.statement_operands.specs.declared.MeaningKind.TheVariants as meaning
 use Rattle.statement_operands.specs.declared.Stop.{Stop}
 use Rattle.statement_operands.specs.declared.Stop.TheVariants as stop
 use Rattle.statement_operands.specs.Demands.{demands}
+use Rattle.statement_operands.specs.Resolved.{AreOperands}
 use Rattle.operand_value.specs.Operands.{base_modulus, top_modulus}
 use Rattle.statement_work.specs.Results.{named_value}
 use Rattle.statement_work.specs.Works.{Works}
@@ -72,10 +73,11 @@ SetsField field.Nothing (form.Base p s modulus) a next = SetsBase p s modulus a 
 SetsField (field.Base k) (form.Over n modulus) a next = SetsTop k n modulus a next
 SetsField k f a next = ⊥
 
--- The answer of a form that nothing refuses, and the state after it.
+-- The answer of a form that nothing refuses, and the state after it. Over a top field the operands are
+-- modules and twisted polynomials over it.
 abbrev pub GivesOver : Option Top → State → Form → Answer → State → Type 0
 GivesOver (Some t) st f a next =
-    Works t st.names f a × (next ≡ record { field = st.field; names = with_name (demands f).gives (named_value a) st.names })
+    AreOperands t st.names (demands f) × Works t st.names f a × (next ≡ record { field = st.field; names = with_name (demands f).gives (named_value a) st.names })
 GivesOver None st f a next = (k : FieldState) × SetsField st.field f a k × (next ≡ record { field = k; names = st.names })
 
 abbrev pub Gives : State → Form → Answer → State → Type 0

@@ -12,7 +12,7 @@ ghost use Rattle.session.specs.Steps.{HasBasePair, HasTopPair, IsReducible, Sets
 
 use answer::{Answer, FieldState};
 use field_tower::{BaseFault, BaseField, Tower, TowerFault, TowerRefused};
-use operand_value::{base_modulus, top_modulus};
+use operand_value::{base_modulus, base_polynomial};
 use script_lang::Sum;
 use script_statement::Form;
 use statement_operands::{MeaningKind, Stop};
@@ -82,7 +82,7 @@ fn made_top(alloc: Global, base: BaseField, n: u32, modulus: &Sum) -> Result<Tow
     ensures stop { IfErr result (λ r. r.stop ≢ Stop.NoMemory → StopsAfter (top_refusal base n modulus.now) r.stop
         ((r.stop ≡ Stop.Meaning MeaningKind.TopReducible) × HasTopPair base n modulus.now)) }
 {
-    let Ok(list) = top_modulus(alloc, &base, modulus) else {
+    let Ok(list) = base_polynomial(alloc, &base, modulus) else {
         return Err(TopStopped {
             base,
             stop: Stop::NoMemory,

@@ -3,6 +3,7 @@ ghost use Rattle.statement_operands.specs.Asked.{unknown_name, wrong_kind, name_
 ghost use Rattle.statement_operands.specs.Demands.{demands};
 ghost use Rattle.statement_operands.specs.Fits.{DemandsFit};
 ghost use Rattle.statement_operands.specs.Names.{value_of};
+ghost use Rattle.statement_operands.specs.Resolved.{AreOperands};
 ghost use Rattle.statement_operands.specs.Seen.{seen};
 ghost use Rattle.statement_operands.specs.Sound.{AreValues};
 ghost use Rattle.statement_work.specs.Built.{is_built};
@@ -70,6 +71,7 @@ pub(crate) fn answer_over(
     requires over { (demands form.now).field ≡ Need.ATop }
     ensures ok { IfOk result (λ a. (work_refusal t.now names.old form.now ≡ None) × Works t.now names.old form.now a
         × (names.new ≡ with_name (demands form.now).gives (named_value a) names.old)) }
+    ensures operands { IfOk result (λ a. AreOperands t.now names.old (demands form.now)) }
     ensures same { OnErr result (names.new ≡ names.old) }
     ensures kept { AreValues t.now names.new }
     ensures stop { IfErr result (λ c. c ≢ Stop.NoMemory → work_refusal t.now names.old form.now ≡ Some c) }

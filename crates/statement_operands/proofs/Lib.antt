@@ -1,3 +1,4 @@
+pub mod Given
 pub mod ListCount
 pub mod Lookup
 pub mod Modules

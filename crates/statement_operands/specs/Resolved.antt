@@ -24,3 +24,10 @@ pub record AreResolved (t : Top) (ns : List (List ℕ × Value)) (d : Demands) (
   pub psi_in : IfSome o.psi (λ h. IsModule (ops_of_top t) (held h))
   pub u_in : IfSome o.u (λ h. is_canonical (ops_of_top t) (held h) ≡ true)
   pub v_in : IfSome o.v (λ h. is_canonical (ops_of_top t) (held h) ≡ true)
+
+-- The operands of a form have values: modules and twisted polynomials over the field.
+pub record AreOperands (t : Top) (ns : List (List ℕ × Value)) (d : Demands) : Type 0 where
+  pub phi : IfSome d.phi (λ m. IsModule (ops_of_top t) (module_value t ns m))
+  pub psi : IfSome d.psi (λ m. IsModule (ops_of_top t) (module_value t ns m))
+  pub u : IfSome d.u (λ u. is_canonical (ops_of_top t) (twisted_value t ns u) ≡ true)
+  pub v : IfSome d.v (λ u. is_canonical (ops_of_top t) (twisted_value t ns u) ≡ true)

@@ -1,3 +1,9 @@
-pub mod Decided
+pub mod DivisionsExist
+pub mod HeightTold
+pub mod InvariantsExist
+pub mod MultiplesExist
 pub mod OneAnswer
+pub mod QuotientsDecided
 pub mod RanksFirst
+pub mod Refused
+pub mod SomeAnswer

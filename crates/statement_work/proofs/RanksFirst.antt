@@ -1,6 +1,7 @@
 -- A list in the place of a module that is none refuses a form before its own meaning does, and no form
 -- with such an operand has a size that its values show.
-use Rattle.std.proofs.Common.{◌≡◌, ◌≢◌, ◌||◌, ℕ, Bool, true, false, Option, Some, None, option_map, List, refl, sym, ap, ap₂, ◌∙◌, subst}
+use Rattle.std.proofs.Common.{◌≡◌, ◌≢◌, ◌||◌, ℕ, Bool, true, false, Option, Some, None, option_map, List, Result, Ok, Err, refl, sym, ap, ap₂, ◌∙◌, subst}
+use Rattle.std.specs.Prelude.{IfOk}
 use Rattle.std.specs.Option.{option_or}
 use Rattle.std.proofs.lemmas.Bool.{false≢true}
 use Rattle.residue_field.specs.Top.{Top}
@@ -35,3 +36,7 @@ pub stop_first : (t : Top) (ns : List (List ℕ × Value)) (f : Form) (d : Deman
 stop_first t ns f d c asked refused other =
     let both = refused other in
     rank_first t ns f (ap (unranked_operands t) (sym asked) ∙ both.1) ∙ ap Some (sym both.0)
+
+pub on_ok : {A X : Type 0} {P : Type 0} (r : Result A X) → P → IfOk r (λ a. P)
+on_ok (Ok a) p = p
+on_ok (Err e) p = tt

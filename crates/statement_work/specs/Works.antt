@@ -38,6 +38,13 @@ IsShown (Some v) a = a ≡ answer.Shown v
 abbrev pub IsDivided : Answer → (List TopElem → List TopElem → Type 0) → Type 0
 IsDivided a P = (c rest : List TopElem) × (a ≡ answer.Division c rest) × P c rest
 
+-- The greatest common right divisor, and the least common left multiple, with their cofactors.
+abbrev pub IsCommonOf : Top → List TopElem → List TopElem → Answer → Type 0
+IsCommonOf t u v a = (c : Common TopElem) × (a ≡ answer.Common c) × IsCommonRight (ops_of_top t) (frob_of_top t).frob u v c.d c.s c.w
+
+abbrev pub IsMultipleOf : Top → List TopElem → List TopElem → Answer → Type 0
+IsMultipleOf t u v a = (m : Multiple TopElem) × (a ≡ answer.Multiple m) × IsLeastMultiple (ops_of_top t) (frob_of_top t).frob u v m.m m.s m.w
+
 -- The characteristic, the height and the invariants of a Drinfeld module over the top field.
 abbrev pub IsItsCharacteristic : Top → List TopElem → List ℕ → Type 0
 IsItsCharacteristic t phi p = IsCharacteristic (ops_of_top t) (ops_of t.base) (frob_of_top t) phi p
@@ -74,10 +81,8 @@ Works t ns (form.Rdiv u v) a =
     IsDivided a (λ c rest. IsRightDivision (ops_of_top t) (frob_of_top t).frob (twisted_value t ns u) (twisted_value t ns v) c rest)
 Works t ns (form.Ldiv u v) a =
     IsDivided a (λ c rest. IsLeftDivision (ops_of_top t) (frob_of_top t).frob (twisted_value t ns u) (twisted_value t ns v) c rest)
-Works t ns (form.Common u v) a =
-    (c : Common TopElem) × (a ≡ answer.Common c) × IsCommonRight (ops_of_top t) (frob_of_top t).frob (twisted_value t ns u) (twisted_value t ns v) c.d c.s c.w
-Works t ns (form.Multiple u v) a =
-    (m : Multiple TopElem) × (a ≡ answer.Multiple m) × IsLeastMultiple (ops_of_top t) (frob_of_top t).frob (twisted_value t ns u) (twisted_value t ns v) m.m m.s m.w
+Works t ns (form.Common u v) a = IsCommonOf t (twisted_value t ns u) (twisted_value t ns v) a
+Works t ns (form.Multiple u v) a = IsMultipleOf t (twisted_value t ns u) (twisted_value t ns v) a
 Works t ns (form.Check m n u) a =
     IsTruth a (IsHomomorphism (ops_of_top t) (frob_of_top t).frob (module_value t ns m) (module_value t ns n) (twisted_value t ns u))
 Works t ns (form.Quotient m u name) a = IsQuotientOf t (module_value t ns m) (twisted_value t ns u) a

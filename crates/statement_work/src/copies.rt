@@ -17,6 +17,7 @@ pub fn named_value(alloc: Global, answer: &Answer) -> Result<Option<Value>, NoMe
     match answer {
         Answer::Named(_, value) => Ok(Some(copied_value(alloc, value)?)),
         Answer::Twisted(u) => Ok(Some(Value::Ore(copied_ore(alloc, u)?))),
+        Answer::Quotient(phi) => Ok(Some(Value::Module(phi.copied(alloc)?))),
         _ => Ok(None),
     }
 }

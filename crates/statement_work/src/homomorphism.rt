@@ -1,42 +1,25 @@
-ghost use Rattle.std.specs.Prelude.{◌≡◌, ◌↔◌, IsTrue, IfOk, not, true};
+//! Homomorphisms of two modules, whose constants are to be equal.
+ghost use Rattle.std.specs.Prelude.{◌≡◌, ◌≢◌, ◌↔◌, IsTrue, true, false, not, IfOk, IfErr};
 ghost use Rattle.ring_core.specs.Coeffs.{is_canonical};
+ghost use Rattle.residue_field.specs.Top.{ops_of_top, frob_of_top};
 ghost use Rattle.drinfeld_mod.specs.Module.{IsModule};
 ghost use Rattle.morphism.specs.Homomorphism.{IsHomomorphism};
 ghost use Rattle.statement_work.specs.Refusals.{constants_differ};
+ghost use Rattle.statement_work.specs.Results.{gives_value};
+ghost use Rattle.statement_work.specs.Works.{IsTruth};
 
-use drinfeld_mod::{Module, as_ore};
-use ore_poly::{Ore, OreRing};
+use answer::Answer;
+use drinfeld_mod::Module;
+use field_tower::{TopElem, Tower};
+use morphism::is_homomorphism;
+use ore_poly::Ore;
 use ring_core::lists::coeff_at;
-use ring_core::{E, Field, FrobField, NoMemory, Ring};
+use ring_core::{E, Field};
+use statement_operands::{MeaningKind, Stop};
 use std::alloc::Global;
 
-/// Whether `u` is a homomorphism from `phi` to `psi`.
-pub(crate) fn is_homomorphism<K: FrobField>(
-    alloc: Global,
-    field: &K,
-    phi: &Module<E<K>>,
-    psi: &Module<E<K>>,
-    u: &Ore<E<K>>,
-) -> Result<bool, NoMemory>
-    requires source { IsModule (K.ops field.now) phi.now }
-    requires target { IsModule (K.ops field.now) psi.now }
-    requires candidate { is_canonical (K.ops field.now) u.now ≡ true }
-    ensures { IfOk result (λ yes. IsTrue yes ↔ IsHomomorphism (K.ops field.now) (K.frob_ops field.now).frob phi.now psi.now u.now) }
-{
-    let ring = OreRing::new(field);
-    let source = as_ore(alloc, field, phi)?;
-    let target = as_ore(alloc, field, psi)?;
-    let left = ring.mul(alloc, u, &source)?;
-    let right = ring.mul(alloc, &target, u)?;
-    Ok(ring.equal(&left, &right))
-}
-
 /// Whether the constants of two modules are equal.
-pub(crate) fn have_one_constant<K: FrobField>(
-    field: &K,
-    phi: &Module<E<K>>,
-    psi: &Module<E<K>>,
-) -> bool
+pub(crate) fn have_one_constant<K: Field>(field: &K, phi: &Module<E<K>>, psi: &Module<E<K>>) -> bool
     requires source { IsModule (K.ops field.now) phi.now }
     requires target { IsModule (K.ops field.now) psi.now }
     ensures { not result ≡ constants_differ (K.ops field.now) phi.now psi.now }
@@ -44,4 +27,26 @@ pub(crate) fn have_one_constant<K: FrobField>(
     let source = coeff_at(field, phi.as_slice(), 0);
     let target = coeff_at(field, psi.as_slice(), 0);
     field.equal(source, target)
+}
+
+/// Whether `u` is a homomorphism from `phi` to `psi`, whose constants are to be equal.
+pub(crate) fn check(
+    alloc: Global,
+    t: &Tower,
+    phi: &Module<TopElem>,
+    psi: &Module<TopElem>,
+    u: &Ore<TopElem>,
+) -> Result<Answer, Stop>
+    requires source { IsModule (ops_of_top t.now) phi.now }
+    requires target { IsModule (ops_of_top t.now) psi.now }
+    requires candidate { is_canonical (ops_of_top t.now) u.now ≡ true }
+    ensures ok { IfOk result (λ a. (constants_differ (ops_of_top t.now) phi.now psi.now ≡ false) × IsTruth a (IsHomomorphism (ops_of_top t.now) (frob_of_top t.now).frob phi.now psi.now u.now)) }
+    ensures elem { IfOk result (λ a. gives_value t.now a ≡ true) }
+    ensures stop { IfErr result (λ c. c ≢ Stop.NoMemory → (constants_differ (ops_of_top t.now) phi.now psi.now ≡ true) × (c ≡ Stop.Meaning MeaningKind.OtherConstant)) }
+{
+    if !have_one_constant(t, phi, psi) {
+        return Err(Stop::Meaning(MeaningKind::OtherConstant));
+    }
+    let yes = is_homomorphism(alloc, t, phi, psi, u)?;
+    Ok(Answer::Truth(yes))
 }

@@ -4,7 +4,9 @@
 
 mod built;
 mod copies;
+mod division;
 mod homomorphism;
+mod invariants;
 pub mod laws;
 mod modules;
 mod names;

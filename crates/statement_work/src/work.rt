@@ -3,7 +3,7 @@ ghost use Rattle.statement_operands.specs.Asked.{unknown_name, wrong_kind};
 ghost use Rattle.statement_operands.specs.Demands.{demands};
 ghost use Rattle.statement_operands.specs.Fits.{DemandsFit};
 ghost use Rattle.statement_operands.specs.Ranks.{unranked_operands};
-ghost use Rattle.statement_operands.specs.Resolved.{held, AreResolved};
+ghost use Rattle.statement_operands.specs.Resolved.{held, AreOperands, AreResolved};
 ghost use Rattle.statement_operands.specs.Seen.{seen};
 ghost use Rattle.statement_operands.specs.Sound.{AreValues};
 ghost use Rattle.statement_work.specs.Built.{is_built};
@@ -11,7 +11,10 @@ ghost use Rattle.statement_work.specs.Refusals.{work_refusal};
 ghost use Rattle.statement_work.specs.Results.{gives_value};
 ghost use Rattle.statement_work.specs.Works.{Works};
 
-use super::modules::{check, module, rank};
+use super::division::{common, ldiv, multiple, rdiv};
+use super::homomorphism::check;
+use super::invariants::{characteristic, height, j, ordinary, rank, supersingular};
+use super::modules::{image, module, quotient};
 use super::names::{ore, show};
 use super::sums::{add, mul, sub};
 use answer::Answer;
@@ -55,10 +58,21 @@ fn work(
         Form::Ore { name, .. } => Ok(ore(alloc, name, given(&o.u))?),
         Form::Show { name } => Ok(show(alloc, names, name)?),
         Form::Rank { .. } => Ok(rank(given(&o.phi))),
-        Form::Check { .. } => check(alloc, t, given(&o.phi), given(&o.psi), given(&o.u)),
+        Form::Char { .. } => Ok(characteristic(alloc, t, given(&o.phi))?),
+        Form::Height { .. } => Ok(height(alloc, t, given(&o.phi))?),
+        Form::Ordinary { .. } => Ok(ordinary(alloc, t, given(&o.phi))?),
+        Form::Supersingular { .. } => Ok(supersingular(alloc, t, given(&o.phi))?),
+        Form::J { k, .. } => j(t, given(&o.phi), *k),
+        Form::Image { a, .. } => Ok(image(alloc, t, given(&o.phi), a)?),
         Form::Add { .. } => Ok(add(alloc, t, given(&o.u), given(&o.v))?),
         Form::Sub { .. } => Ok(sub(alloc, t, given(&o.u), given(&o.v))?),
         Form::Mul { .. } => mul(alloc, t, given(&o.u), given(&o.v)),
+        Form::Rdiv { .. } => rdiv(alloc, t, given(&o.u), given(&o.v)),
+        Form::Ldiv { .. } => ldiv(alloc, t, given(&o.u), given(&o.v)),
+        Form::Common { .. } => Ok(common(alloc, t, given(&o.u), given(&o.v))?),
+        Form::Multiple { .. } => Ok(multiple(alloc, t, given(&o.u), given(&o.v))?),
+        Form::Check { .. } => check(alloc, t, given(&o.phi), given(&o.psi), given(&o.u)),
+        Form::Quotient { .. } => Ok(quotient(alloc, t, given(&o.phi), given(&o.u))?),
         _ => unreachable!(),
     }
 }
@@ -79,6 +93,7 @@ pub fn answer_of(
     requires built { is_built form.now ≡ true }
     requires over { (demands form.now).field ≡ Need.ATop }
     ensures ok { IfOk result (λ a. (work_refusal t.now names.now form.now ≡ None) × Works t.now names.now form.now a) }
+    ensures operands { IfOk result (λ a. AreOperands t.now names.now (demands form.now)) }
     ensures elem { IfOk result (λ a. gives_value t.now a ≡ true) }
     ensures stop { IfErr result (λ c. c ≢ Stop.NoMemory → work_refusal t.now names.now form.now ≡ Some c) }
 {

@@ -2,6 +2,8 @@
 #![tactic(auto)]
 
 #[cfg(test)]
+mod algebra;
+#[cfg(test)]
 mod answered;
 #[cfg(test)]
 mod faults;

@@ -7,7 +7,7 @@ use std::test::Fail;
 /// Fields and names: not built, then the field, then unknown names, then names of the other kind, then names
 /// that are taken.
 const NAMES: &str = "frob nope =>  => 9 line 1: not built yet
-rdiv t 0 =>  => 9 line 1: not built yet
+bounded nope nope 0 =>  => 9 line 1: not built yet
 rank nope =>  => 5 line 1: no field yet
 over 2 z =>  => 5 line 1: no field yet
 base 2;rank nope => q = 2 => 5 line 2: no field yet
@@ -28,7 +28,7 @@ base 2;over 1 z;module m = [1, 1];ore u = m => q = 2;n = 1;m = [1, 1] => 5 line 
 base 2;over 1 z;module m = [1, 1];ore m = m => q = 2;n = 1;m = [1, 1] => 5 line 4: wrong kind of name";
 
 /// Taken names before sizes, and before lists that are no modules; those after names, and before constants that
-/// differ; moduli that aren't monic before reducible ones.
+/// differ and invariants that a module hasn't; moduli that aren't monic before reducible ones.
 const WORK: &str =
     "base 2;over 1 z;ore u = t^128;mul u t as u => q = 2;n = 1;u = t^128 => 5 line 4: the name is taken
 base 2;over 1 z;module m = [1, 1];module m = [1, 0] => q = 2;n = 1;m = [1, 1] => 5 line 4: the name is taken
@@ -40,22 +40,21 @@ base 2;over 1 z;check [1] nope 1 => q = 2;n = 1 => 5 line 3: unknown name
 base 2;over 1 z;ore u = t;check [1] u 1 => q = 2;n = 1;u = t => 5 line 4: wrong kind of name
 base 2;over 2 z^2+z+1;check [z] [z+1, 1] 1 => q = 2;n = 2 => 5 line 3: not a module
 base 2;over 2 z^2+z+1;check [z, 1] [z+1, 0] 1 => q = 2;n = 2 => 5 line 3: not a module
+base 2;over 2 z^2+z+1;j [z] 1 => q = 2;n = 2 => 5 line 3: not a module
+base 2;over 2 z^2+z+1;j [z, 1, 0] 0 => q = 2;n = 2 => 5 line 3: not a module
+base 2;over 2 z^2+z+1;j nope 0 => q = 2;n = 2 => 5 line 3: unknown name
+base 2;over 2 z^2+z+1;quotient [z] 0 => q = 2;n = 2 => 5 line 3: not a module
+base 2;over 2 z^2+z+1;image [z, 0] T as v => q = 2;n = 2 => 5 line 3: not a module
+base 2;over 1 z;ore u = t;quotient [1] 0 as u => q = 2;n = 1;u = t => 5 line 4: the name is taken
+base 2;over 1 z;ore u = t;image [1, 1] T as u => q = 2;n = 1;u = t => 5 line 4: the name is taken
+base 2;over 1 z;ore u = t;image u T as u => q = 2;n = 1;u = t => 5 line 4: wrong kind of name
+base 2;over 1 z;rdiv nope 0 => q = 2;n = 1 => 5 line 3: unknown name
+base 2;over 1 z;module m = [1, 1];ldiv m 0 => q = 2;n = 1;m = [1, 1] => 5 line 4: wrong kind of name
 base 3;over 2 2*z^2 => q = 3 => 5 line 2: the modulus is not monic of the stated degree
 base 3 2 2*a^2 =>  => 5 line 1: the modulus is not monic of the stated degree";
 
 /// Each form that isn't built yet, with operands that would be refused.
-const NOT_BUILT: &str = "char [1] =>  => 9 line 1: not built yet
-height [1] =>  => 9 line 1: not built yet
-ordinary [1] =>  => 9 line 1: not built yet
-supersingular [1] =>  => 9 line 1: not built yet
-j [1] 0 =>  => 9 line 1: not built yet
-image [1] T as v =>  => 9 line 1: not built yet
-rdiv 1 0 =>  => 9 line 1: not built yet
-ldiv 1 0 =>  => 9 line 1: not built yet
-common 1 0 =>  => 9 line 1: not built yet
-multiple 1 0 =>  => 9 line 1: not built yet
-quotient [1] 0 as v =>  => 9 line 1: not built yet
-iso [1] [1] =>  => 9 line 1: not built yet
+const NOT_BUILT: &str = "iso [1] [1] =>  => 9 line 1: not built yet
 isogenous [1] [1] =>  => 9 line 1: not built yet
 bounded [1] [1] 0 =>  => 9 line 1: not built yet
 full [1] [1] =>  => 9 line 1: not built yet

@@ -1,8 +1,8 @@
 use Rattle.std.proofs.Common.{ap, ◌∙◌}
 use Rattle.ring_core.specs.Twisted.{list_mul}
 use Rattle.ring_core.proofs.ListRing.{frob_ring}
-use Rattle.statement_work.proofs.Decided.{decided}
-use Rattle.statement_work.proofs.homomorphism.is_homomorphism.Goals as goal
+use Rattle.morphism.proofs.Decided.{decided}
+use Rattle.morphism.proofs.calls.is_homomorphism.Goals as goal
 
 pub returns : goal.returns
 returns g c =
