@@ -10,11 +10,12 @@ fn count_one(counter: &Cell<u64>) {
     counter.set(counter.get().wrapping_add(1));
 }
 
-/// A field that counts its products and the steps of its Frobenius.
+/// A field that counts its products, its inverses and the steps of its Frobenius.
 #[derive(Drop)]
 pub struct CountingField<'k, K: Field> {
     field: &'k K,
     products: Cell<u64>,
+    inverses: Cell<u64>,
     steps: Cell<u64>,
 }
 
@@ -32,6 +33,7 @@ impl<'k, K: Field> CountingField<'k, K> {
         CountingField {
             field,
             products: Cell::new(0),
+            inverses: Cell::new(0),
             steps: Cell::new(0),
         }
     }
@@ -39,6 +41,11 @@ impl<'k, K: Field> CountingField<'k, K> {
     /// How many products were asked for.
     pub fn products(&self) -> u64 {
         self.products.get()
+    }
+
+    /// How many inverses were asked for.
+    pub fn inverses(&self) -> u64 {
+        self.inverses.get()
     }
 
     /// How many times the Frobenius was asked for.
@@ -80,6 +87,7 @@ impl<'k, K: Field> Field for CountingField<'k, K> {
     }
 
     fn inv(&self, a: E<K>) -> Option<E<K>> {
+        count_one(&self.inverses);
         self.field.inv(a)
     }
 

@@ -1,9 +1,19 @@
 //! Fields from rows of text. A base field is `p s; modulus`, and a top field the same of its base, ` | `
 //! and `n; modulus`; coefficients stand lowest first.
-use field_tower::{BaseField, Code, Tower};
+use field_tower::{BaseField, Code, TopElem, Tower, WIDTH};
+use ring_core::FrobField;
 use ring_core::lists::all_elems;
 use std::alloc::Global;
 use std::test::Fail;
+
+/// The field of four elements, modulo `z^2 + z + 1` over two elements.
+pub const FOUR: &str = "2 1; 0 1 | 2; 1 1 1";
+
+/// The field of nine elements, modulo `z^2 + 1` over three elements.
+pub const NINE: &str = "3 1; 0 1 | 2; 1 0 1";
+
+/// The field of 4,096 elements, modulo `z^12 + z^3 + 1` over two elements.
+pub const TWELVE: &str = "2 1; 0 1 | 12; 1 0 0 1 0 0 0 0 0 0 0 0 1";
 
 /// What `BaseField::make` is given.
 #[derive(Drop)]
@@ -93,4 +103,27 @@ pub fn prime_field(alloc: Global, p: u32) -> Result<BaseField, Fail> {
 /// The top field of a row.
 pub fn tower(alloc: Global, text: &str) -> Result<Tower, Fail> {
     make_top(alloc, &top_data(alloc, text)?)
+}
+
+/// The element of a top field over `q` elements with this number: its coordinates are the digits of the number in
+/// base `q`, lowest first.
+fn element(q: u32, number: u32) -> TopElem {
+    let mut places = [0; WIDTH];
+    let mut rest = number;
+    for i in 0..WIDTH {
+        let digit = rest.checked_rem(q).unwrap_or(0);
+        places[i] = Code::try_from(digit).unwrap_or(0);
+        rest = rest.checked_div(q).unwrap_or(0);
+    }
+    TopElem(places)
+}
+
+/// The elements of the field with the numbers below `count`.
+pub fn elements(alloc: Global, tower: &Tower, count: u32) -> Result<Vec<TopElem>, Fail> {
+    let q = tower.base().q();
+    let mut list = Vec::new(alloc);
+    for number in 0..count {
+        list.push(element(q, number))?;
+    }
+    Ok(list)
 }
