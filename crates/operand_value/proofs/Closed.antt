@@ -1,9 +1,8 @@
 -- What sums stand for is of the field in which they are read.
-use Rattle.std.proofs.Common.{◌≡◌, ℕ, zero, suc, Bool, true, false, List, [], ◌∷◌, map, fold, refl, sym, ap, subst, ◌%◌, if◌then◌else◌}
+use Rattle.std.proofs.Common.{◌≡◌, ℕ, Bool, true, false, List, [], ◌∷◌, map, fold, refl, sym, ap, subst, ◌%◌}
 use Rattle.std.proofs.lemmas.Bool.{and_parts, and_from}
 use Rattle.ring_core.specs.Ring.{RingOps, IsElem, IsRing}
 use Rattle.ring_core.specs.Coeffs.{are_elems, is_canonical}
-use Rattle.ring_core.specs.Powers.{power_of}
 use Rattle.ring_core.specs.Monomial.{monomial}
 use Rattle.ring_core.specs.Twisted.{list_add}
 use Rattle.ring_core.proofs.ListRing.{add_in}
@@ -20,7 +19,7 @@ use Rattle.script_lang.specs.declared.Factor.{Factor}
 use Rattle.script_lang.specs.declared.Factor.TheOpen.{Factor-F, Sum-F, Term-F}
 use Rattle.script_lang.specs.declared.Factor.TheViews.{roll-Factor, roll-Sum, roll-Term}
 use Rattle.script_lang.specs.declared.Factor.TheFolds.{fold-roll-Sum, fold-roll-Term, fold-roll-Factor, map-Factor, ind-Sum, ind-Term}
-use Rattle.operand_value.specs.Values.{Letters, factor_step, term_step, sum_step, signed, factor_value, term_value, sum_value, terms_poly, poly_value, sum_values}
+use Rattle.operand_value.specs.Values.{Letters, factor_step, term_step, sum_step, signed, factor_value, term_value, sum_value, poly_value, sum_values}
 use Rattle.operand_value.specs.Fields.{top_letters}
 use Rattle.operand_value.specs.Operands.{list_values, twisted_sum}
 use Rattle.operand_value.proofs.Elements.{reduced_in, letter_in}

@@ -1,23 +1,15 @@
 -- A statement that passes no limit has an outcome.
-use Rattle.std.proofs.Common.{◌≡◌, ◌≢◌, ◌⊎◌, inl, inr, ℕ, suc, ◌+◌, ◌-◌, ◌<◌, ◌≤◌, ◌^◌, ◌||◌, not, Bool, true, false, Option, Some, None, option_map, List, length, slice_index, refl, sym, ap, ap₂, subst, ◌∙◌, arith}
-use Rattle.std.specs.Prelude.{is_some}
-use Rattle.std.specs.Option.{option_or}
-use Rattle.std.proofs.lemmas.Bool.{false≢true}
+use Rattle.std.proofs.Common.{◌≡◌, ◌⊎◌, inl, inr, ℕ, suc, ◌+◌, ◌-◌, ◌<◌, ◌≤◌, not, Bool, true, false, Option, Some, None, option_map, List, slice_index, refl, sym, ap, subst, ◌∙◌, arith}
 use Rattle.std.proofs.lemmas.Option.{none-some}
-use Rattle.ring_core.specs.Ring.{RingOps}
-use Rattle.ring_core.specs.Coeffs.{coeff, are_elems, is_canonical}
-use Rattle.ring_core.specs.Twisted.{list_add, list_neg, list_mul}
+use Rattle.ring_core.specs.Coeffs.{coeff}
 use Rattle.finite_ring.proofs.Counted.{numbered}
-use Rattle.residue_field.specs.declared.TopElem.{TopElem}
 use Rattle.residue_field.specs.Prime.{is_listed, prime_ops}
 use Rattle.residue_field.specs.Base.{Base, base_ops, ops_of, size_of}
-use Rattle.residue_field.specs.Top.{Top, top_ops, ops_of_top, frob_of_top}
+use Rattle.residue_field.specs.Top.{Top, top_ops}
 use Rattle.residue_field.proofs.Listed.{listed_large}
 use Rattle.residue_field.proofs.Modular.{prime_ring}
 use Rattle.residue_field.proofs.BaseLaws.{IsBaseShape, shape_ring, shape_counted, base_ring}
 use Rattle.residue_field.proofs.TopLaws.{IsTopShape, top_shape_ring, top_shape_counted}
-use Rattle.morphism.specs.Homomorphism.{IsHomomorphism}
-use Rattle.script_lang.specs.declared.Name.{Name}
 use Rattle.script_lang.specs.declared.Sum.{Sum}
 use Rattle.script_statement.specs.declared.Form.{Form}
 use Rattle.script_statement.specs.declared.Form.TheVariants as form
@@ -29,28 +21,23 @@ use Rattle.answer.specs.declared.Answer.TheVariants as answer
 use Rattle.answer.specs.declared.FieldState.{FieldState}
 use Rattle.answer.specs.declared.FieldState.TheVariants as field
 use Rattle.answer.specs.declared.Value.{Value}
-use Rattle.answer.specs.declared.Value.TheVariants as value
 use Rattle.answer.specs.Texts.{top_of}
-use Rattle.operand_value.specs.Operands.{list_values, base_modulus, top_modulus}
+use Rattle.operand_value.specs.Operands.{base_modulus, top_modulus}
 use Rattle.statement_operands.specs.declared.MeaningKind.TheVariants as meaning
-use Rattle.statement_operands.specs.declared.Need.{Need}
-use Rattle.statement_operands.specs.declared.Need.TheVariants as need
 use Rattle.statement_operands.specs.declared.Stop.{Stop}
 use Rattle.statement_operands.specs.declared.Stop.TheVariants as stop
 use Rattle.statement_operands.specs.Asked.{unknown_name, wrong_kind}
 use Rattle.statement_operands.specs.Demands.{demands}
-use Rattle.statement_operands.specs.Names.{value_of}
-use Rattle.statement_operands.specs.Values.{module_value, twisted_value}
 use Rattle.statement_work.specs.Built.{is_built}
 use Rattle.statement_work.specs.Refusals.{when}
 use Rattle.statement_work.specs.Results.{named_value}
 use Rattle.statement_work.proofs.Refused.{none_left, none_right}
 use Rattle.statement_work.proofs.SomeAnswer.{some_work}
 use Rattle.session.specs.Outcome.{HasOutcome}
-use Rattle.session.specs.Refusals.{is_monic, base_refusal, top_refusal, field_refusal, name_refusal, modulus_refusal, refusal_over, value_refusal, refusal}
+use Rattle.session.specs.Refusals.{base_refusal, top_refusal, field_refusal, modulus_refusal, value_refusal, refusal}
 use Rattle.session.specs.Sound.{is_sound}
 use Rattle.session.specs.State.{State}
-use Rattle.session.specs.Steps.{HasBasePair, HasTopPair, IsReducible, StopsAfter, Stops, SetsBase, SetsTop, SetsField, GivesOver, Answers, with_name}
+use Rattle.session.specs.Steps.{HasBasePair, HasTopPair, IsReducible, StopsAfter, SetsBase, SetsTop, GivesOver, with_name}
 use Rattle.session.proofs.Decided.{pair_or_none}
 use Rattle.session.proofs.Granted.{granted}
 use Rattle.session.proofs.Monic.{told_monic}

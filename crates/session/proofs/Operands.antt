@@ -1,10 +1,9 @@
 -- The operands of a form that passes no limit and isn't refused are of the field.
-use Rattle.std.proofs.Common.{◌≡◌, ℕ, ◌≤◌, ◌||◌, not, Bool, true, false, Option, Some, None, option_map, List, length, refl, sym, ap, subst, ◌∙◌}
+use Rattle.std.proofs.Common.{◌≡◌, ℕ, ◌≤◌, ◌||◌, not, Bool, true, false, Option, Some, None, option_map, List, refl, sym, subst}
 use Rattle.std.specs.Prelude.{IfSome, is_some}
-use Rattle.std.specs.Option.{option_or}
 use Rattle.std.proofs.lemmas.Bool.{false≢true, or_parts}
 use Rattle.std.proofs.lemmas.Option.{none-some}
-use Rattle.ring_core.specs.Coeffs.{is_canonical, trim}
+use Rattle.ring_core.specs.Coeffs.{is_canonical}
 use Rattle.ring_core.proofs.Coefficients.{canonical-trim}
 use Rattle.residue_field.specs.Top.{Top, ops_of_top}
 use Rattle.drinfeld_mod.specs.Module.{IsModule}
@@ -31,7 +30,7 @@ use Rattle.statement_operands.specs.Values.{as_module, as_twisted, module_value,
 use Rattle.statement_operands.proofs.ListCount.{values_count}
 use Rattle.statement_operands.proofs.Modules.{told_module}
 use Rattle.statement_operands.proofs.SoundNames.{value_in}
-use Rattle.statement_work.specs.Refusals.{when, size_refusal, own_refusal, work_refusal}
+use Rattle.statement_work.specs.Refusals.{size_refusal, own_refusal, work_refusal}
 use Rattle.statement_work.proofs.Refused.{none_left, none_right, not_when}
 
 -- Neither the lists that are to be modules nor the meaning of a form refuses it.

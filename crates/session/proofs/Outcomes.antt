@@ -1,6 +1,5 @@
 -- A statement has at most one outcome.
-use Rattle.std.proofs.Common.{◌≡◌, ◌≢◌, ℕ, ◌-◌, Option, Some, None, List, refl, sym, ap, ap₂, subst, ◌∙◌}
-use Rattle.residue_field.specs.declared.TopElem.{TopElem}
+use Rattle.std.proofs.Common.{◌≡◌, ℕ, ◌-◌, Option, Some, None, List, sym, ap, ap₂, subst, ◌∙◌}
 use Rattle.residue_field.specs.Base.{Base, base_ops, base_inj, size_of}
 use Rattle.residue_field.specs.Top.{Top, top_ops, top_inj}
 use Rattle.field_tower.specs.MakeBase.{IsBaseOf}

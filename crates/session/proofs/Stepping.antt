@@ -16,13 +16,12 @@ use Rattle.answer.specs.declared.FieldState.{FieldState}
 use Rattle.answer.specs.declared.FieldState.TheVariants as field
 use Rattle.answer.specs.declared.Value.{Value}
 use Rattle.answer.specs.Texts.{top_of}
-use Rattle.statement_operands.specs.declared.MeaningKind.TheVariants as meaning
 use Rattle.statement_operands.specs.declared.Need.{Need}
 use Rattle.statement_operands.specs.declared.Need.TheVariants as need
 use Rattle.residue_field.specs.Top.{Top}
 use Rattle.statement_operands.specs.declared.Stop.{Stop}
 use Rattle.statement_operands.specs.declared.Stop.TheVariants as stop
-use Rattle.statement_operands.specs.Demands.{Demands, demands}
+use Rattle.statement_operands.specs.Demands.{demands}
 use Rattle.statement_operands.specs.Fits.{OperandFits, DemandsFit}
 use Rattle.statement_operands.specs.Resolved.{AreOperands}
 use Rattle.statement_work.specs.Built.{is_built}
@@ -33,7 +32,6 @@ use Rattle.session.specs.State.{State}
 use Rattle.session.specs.Refusals.{field_refusal, name_refusal, modulus_refusal, refusal_over, value_refusal, refusal}
 use Rattle.session.specs.Sound.{sound_over, is_sound, IsBaseSet, OverBase}
 use Rattle.session.specs.Steps.{IsReducible, StopsAfter, Stops, SetsBase, SetsTop, SetsField, GivesOver, with_name, Does}
-use Rattle.session.proofs.Granted.{granted}
 
 -- Where the names meet what a form that is answered asks, the values decide.
 pub refusal_is : (st : State) (f : Form) → is_built f ≡ true → name_refusal st (demands f) ≡ None → refusal st f ≡ value_refusal st.field st.names f

@@ -1,12 +1,11 @@
 -- Divisions of twisted polynomials by one that isn't zero exist, on either side.
 use Rattle.std.proofs.Common.{◌≡◌, ℕ, zero, suc, ◌+◌, ◌-◌, ◌<◌, ◌≤◌, true, Option, List, length, sym, ◌∙◌, ap, ap₂, ⊎_elim, arith}
 use Rattle.std.proofs.lemmas.Bool.{and_parts, cases_lt, cases_eq}
-use Rattle.ring_core.specs.Ring.{RingOps, IsElem}
+use Rattle.ring_core.specs.Ring.{RingOps}
 use Rattle.ring_core.specs.Field.{IsField, FrobOps, IsFrobField}
 use Rattle.ring_core.specs.Coeffs.{coeff, are_elems, is_canonical}
-use Rattle.ring_core.specs.Twisted.{list_mul}
 use Rattle.ring_core.specs.Monomial.{monomial}
-use Rattle.ring_core.proofs.Carrier.{RingOn, elements, zero_mul, mul_zero, add_zero, from_sum}
+use Rattle.ring_core.proofs.Carrier.{RingOn, elements, zero_mul, mul_zero, from_sum}
 use Rattle.ring_core.proofs.Coefficients.{coeff_past, elem_read}
 use Rattle.ring_core.proofs.Twist.{frob_twist}
 use Rattle.ring_core.proofs.ListRing.{coeff-add, coeff-mul}

@@ -1,5 +1,5 @@
 -- Whether a module has a height is told of the operand that has the module as its value.
-use Rattle.std.proofs.Common.{◌≡◌, ℕ, Bool, true, false, Option, Some, None, option_map, List, sym, ap, subst}
+use Rattle.std.proofs.Common.{◌≡◌, ℕ, false, Some, None, option_map, List, sym, ap, subst}
 use Rattle.std.specs.Option.{option_or}
 use Rattle.residue_field.specs.declared.TopElem.{TopElem}
 use Rattle.residue_field.specs.Top.{Top}

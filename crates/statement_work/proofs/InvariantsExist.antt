@@ -1,5 +1,5 @@
 -- The invariants of a Drinfeld module exist.
-use Rattle.std.proofs.Common.{◌≡◌, ◌≢◌, ℕ, zero, suc, ◌-◌, ◌/◌, ◌%◌, ◌<◌, ◌≤◌, true, Option, Some, None, List, [], length, MatchOption, sym, ◌∙◌, ap, ap₂, subst, ⊎_elim, arith}
+use Rattle.std.proofs.Common.{◌≡◌, ◌≢◌, ℕ, zero, suc, ◌/◌, ◌%◌, ◌<◌, ◌≤◌, Option, Some, None, List, [], length, MatchOption, ◌∙◌, ap, subst, ⊎_elim, arith}
 use Rattle.std.proofs.lemmas.Bool.{and_parts, cases_lt, cases_eq}
 use Rattle.ring_core.specs.Ring.{RingOps, IsElem}
 use Rattle.ring_core.specs.Field.{IsField, FrobOps, IsFrobField}

@@ -1,7 +1,6 @@
 -- A form whose operands have values has at most one answer.
-use Rattle.std.proofs.Common.{◌≡◌, ◌≢◌, ℕ, Bool, true, false, Option, Some, None, List, [], refl, sym, ap, ap₂, ◌∙◌, subst}
-use Rattle.std.specs.Prelude.{IsTrue, ◌↔◌}
-use Rattle.std.proofs.lemmas.Bool.{false≢true}
+use Rattle.std.proofs.Common.{◌≡◌, ◌≢◌, ℕ, Bool, true, false, Option, Some, None, List, [], refl, sym, ap, ap₂, ◌∙◌}
+use Rattle.std.specs.Prelude.{IsTrue}
 use Rattle.ring_core.specs.Coeffs.{is_canonical}
 use Rattle.residue_field.specs.declared.TopElem.{TopElem}
 use Rattle.residue_field.specs.Base.{ops_of, inverse_of, size_of}
@@ -12,7 +11,7 @@ use Rattle.residue_field.proofs.TopFrob.{top_frob_field}
 use Rattle.field_tower.proofs.BaseValues.{size_large}
 use Rattle.ore_divide.proofs.Unique.{right_division, common_divisor, least_multiple}
 use Rattle.ore_divide.proofs.LeftUnique.{left_division}
-use Rattle.drinfeld_mod.specs.Module.{IsModule, rank_of, constant_of}
+use Rattle.drinfeld_mod.specs.Module.{IsModule, constant_of}
 use Rattle.drinfeld_mod.proofs.Lowest.{one_characteristic, one_height}
 use Rattle.drinfeld_mod.proofs.Norms.{same_invariant}
 use Rattle.kernel_quotient.specs.Quotient.{IsOtherFactor, IsQuotient}
@@ -26,7 +25,7 @@ use Rattle.statement_operands.specs.Demands.{demands}
 use Rattle.statement_operands.specs.Names.{value_of}
 use Rattle.statement_operands.specs.Resolved.{AreOperands}
 use Rattle.statement_operands.specs.Values.{module_value, twisted_value}
-use Rattle.statement_work.specs.Works.{IsTruth, IsShown, IsDivided, IsCommonOf, IsMultipleOf, IsItsCharacteristic, IsItsHeight, IsQuotientOf, Works}
+use Rattle.statement_work.specs.Works.{IsTruth, IsShown, IsDivided, IsCommonOf, IsMultipleOf, IsQuotientOf, Works}
 
 same_truth : (x y : Bool) → (IsTrue x → IsTrue y) → (IsTrue y → IsTrue x) → x ≡ y
 same_truth true y h g = sym (h refl)

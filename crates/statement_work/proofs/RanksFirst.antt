@@ -1,6 +1,6 @@
 -- A list in the place of a module that is none refuses a form before its own meaning does, and no form
 -- with such an operand has a size that its values show.
-use Rattle.std.proofs.Common.{◌≡◌, ◌≢◌, ◌||◌, ℕ, Bool, true, false, Option, Some, None, option_map, List, Result, Ok, Err, refl, sym, ap, ap₂, ◌∙◌, subst}
+use Rattle.std.proofs.Common.{◌≡◌, ◌≢◌, ◌||◌, ℕ, Bool, true, false, Some, None, option_map, List, Result, Ok, Err, refl, sym, ap, ap₂, ◌∙◌}
 use Rattle.std.specs.Prelude.{IfOk}
 use Rattle.std.specs.Option.{option_or}
 use Rattle.std.proofs.lemmas.Bool.{false≢true}
@@ -13,7 +13,7 @@ use Rattle.statement_operands.specs.declared.Stop.{Stop}
 use Rattle.statement_operands.specs.declared.Stop.TheVariants as stop
 use Rattle.statement_operands.specs.Asked.{if_some}
 use Rattle.statement_operands.specs.Demands.{Demands, demands}
-use Rattle.statement_operands.specs.Ranks.{unranked, unranked_list, unranked_operands}
+use Rattle.statement_operands.specs.Ranks.{unranked_list, unranked_operands}
 use Rattle.statement_work.specs.Refusals.{when, size_refusal, own_refusal, work_refusal}
 
 no_size : (t : Top) (ns : List (List ℕ × Value)) (f : Form) → unranked_operands t (demands f) ≡ true → size_refusal t ns f ≡ None

@@ -32,7 +32,7 @@ use Rattle.statement_operands.specs.Names.{value_of}
 use Rattle.statement_operands.specs.Resolved.{AreOperands}
 use Rattle.statement_operands.specs.Values.{module_value, twisted_value}
 use Rattle.statement_work.specs.Built.{is_built}
-use Rattle.statement_work.specs.Refusals.{when, is_nil, has_invariant, own_refusal}
+use Rattle.statement_work.specs.Refusals.{is_nil, has_invariant, own_refusal}
 use Rattle.statement_work.specs.Works.{IsTruth, IsShown, IsItsHeight, Works}
 use Rattle.statement_work.proofs.DivisionsExist.{right_division_exists, left_division_exists}
 use Rattle.statement_work.proofs.InvariantsExist.{invariant_exists}
