@@ -14,8 +14,8 @@ const CALLS: u32 = 1_000_000;
 
 /// A top field of degree `WIDTH`, and what it took to make it.
 #[derive(Drop)]
-struct Made {
-    tower: Tower,
+pub(super) struct Made {
+    pub(super) tower: Tower,
     /// The call that made the base.
     base: Duration,
     /// The call that made the tower.
@@ -63,7 +63,12 @@ fn polynomial(powers: &[usize], c: Code) -> [Code; WIDTH + 1] {
 
 /// The top field modulo the first such polynomial that is accepted, for codes `c` from 0 up, over the
 /// residues modulo 2 and this modulus of degree `s`.
-fn first_top(rt: &HostRuntime, s: u32, modulus: &[u32], powers: &[usize]) -> io::Result<Made> {
+pub(super) fn first_top(
+    rt: &HostRuntime,
+    s: u32,
+    modulus: &[u32],
+    powers: &[usize],
+) -> io::Result<Made> {
     let start = Instant::now(rt)?;
     let made = BaseField::make(rt.alloc(), 2, s, modulus);
     let base_time = start.elapsed(rt)?;

@@ -1,13 +1,15 @@
 //! How long the kernel of a linear system takes, and how many products of the field it makes; what the
-//! calls of fields take; and how long the reader of scripts takes. With the word `linear` two large systems
-//! are measured, with `fields` the fields, with `parse` the script on standard input; with no word small
-//! systems and products, whose counts are compared with a bound.
+//! calls of fields take; what the least relation of Frobenius takes; and how long the reader of scripts takes.
+//! With the word `linear` two large systems are measured, with `fields` the fields, with `frobenius` four
+//! modules, with `parse` the script on standard input; with no word small systems and products, whose counts
+//! are compared with a bound.
 #![tactic(auto)]
 
 ghost use Rattle.std.specs.Prelude.{◌≡◌, ◌<◌, true};
 ghost use Rattle.linear_algebra.specs.Linear.{are_rows};
 
 mod fields;
+mod frobenius;
 mod random;
 mod scripts;
 
@@ -172,6 +174,10 @@ fn run(rt: &HostRuntime) -> io::Result<bool> {
         Some(word) if word.as_str() == "linear" => large(rt),
         Some(word) if word.as_str() == "fields" => {
             fields::print_all(rt, &BITS, &BYTES)?;
+            Ok(true)
+        }
+        Some(word) if word.as_str() == "frobenius" => {
+            frobenius::print_all(rt, &BITS, &BYTES)?;
             Ok(true)
         }
         Some(word) if word.as_str() == "parse" => {
