@@ -18,6 +18,7 @@ pub struct Random {
 }
 
 impl Random {
+    /// The generator that starts at `seed`; one seed gives the same numbers at each run.
     pub fn new(seed: u64) -> Random {
         Random { state: seed }
     }
