@@ -1,5 +1,6 @@
 -- The text of an answer: its lines, each with a line feed.
-use Rattle.std.specs.Prelude.{ℕ, Bool, true, false, Option, Some, None, List, [], ◌++◌, codes, decimal}
+use Rattle.std.specs.Prelude.{ℕ, Bool, true, false, Option, Some, None, List, [], ◌++◌, length, codes, decimal}
+use Rattle.std.specs.List.{flat_map}
 use Rattle.residue_field.specs.declared.TopElem.{TopElem}
 use Rattle.residue_field.specs.Top.{Top}
 use Rattle.answer.specs.declared.value.Answer.{Answer}
@@ -10,7 +11,7 @@ use Rattle.answer.specs.declared.field.Printing.{Printing}
 use Rattle.answer.specs.declared.field.Printing.TheVariants as printing
 use Rattle.answer.specs.declared.value.Value.{Value}
 use Rattle.answer.specs.declared.value.Value.TheVariants as value
-use Rattle.answer.specs.Elements.{element_text, polynomial_text, twisted_text, module_text}
+use Rattle.answer.specs.Elements.{element_text, polynomial_text, twisted_text, module_text, relation_text, coordinates_text}
 
 -- The field of a printing.
 abbrev pub field_of : Printing → FieldState
@@ -44,6 +45,15 @@ over (Some t) text = text t
 abbrev pub with_cofactors : Top → List ℕ → List TopElem → List TopElem → List TopElem → List ℕ
 with_cofactors t label u s w = line label (twisted_text t u) ++ line (codes "left ") (twisted_text t s) ++ line (codes "right ") (twisted_text t w)
 
+-- The greatest degree of some twisted polynomials, where there are any.
+abbrev pub degree_text : Option ℕ → List ℕ
+degree_text None = []
+degree_text (Some d) = codes ", degree " ++ decimal d
+
+-- How many members a list has, and then a line for each.
+abbrev pub members_text : Top → List (List TopElem) → List ℕ
+members_text t list = line (codes "members ") (decimal (length list)) ++ flat_map (λ u. line [] (twisted_text t u)) list
+
 -- The lines of an answer, whose elements are those of the top field.
 unfoldable pub text_over : Option Top → Answer → List ℕ
 text_over top (answer.Q q) = line (codes "q = ") (decimal q)
@@ -62,6 +72,15 @@ text_over top (answer.Quotient phi) = over top (λ t. line (codes "quotient ") (
 text_over top answer.NoneZero = line [] (codes "no quotient: zero")
 text_over top (answer.NoneRemainder rest) = over top (λ t. line (codes "no quotient: remainder ") (twisted_text t rest))
 text_over top (answer.NoneConstant c) = over top (λ t. line (codes "no quotient: constant ") (element_text t c))
+text_over top (answer.Iso None) = line [] (codes "not isomorphic")
+text_over top (answer.Iso (Some c)) = over top (λ t. line (codes "isomorphic by ") (element_text t c))
+text_over top (answer.Isogenous None) = line [] (codes "not isogenous")
+text_over top (answer.Isogenous (Some u)) = over top (λ t. line (codes "isogenous by ") (twisted_text t u))
+text_over top (answer.Members list) = over top (λ t. members_text t list)
+text_over top (answer.Count n degree) = line (codes "members ") (decimal n ++ degree_text degree)
+text_over top (answer.Motive list) = over top (λ t. line [] (coordinates_text t list))
+text_over top (answer.Relation list) = over top (λ t. line [] (relation_text t.base list))
+text_over top (answer.NoPower m r) = line (codes "no power: degree ") (decimal m ++ codes " does not divide rank " ++ decimal r)
 
 -- The text of an answer in a field.
 abbrev pub text_of : FieldState → Answer → List ℕ

@@ -4,6 +4,7 @@ use fq_poly::Poly;
 use ore_divide::{Common, Multiple};
 use ore_poly::Ore;
 use script_lang::Name;
+use sqlite_items::Items;
 
 /// What a name stands for: a Drinfeld module, or a twisted polynomial.
 #[derive(Drop)]
@@ -50,4 +51,24 @@ pub enum Answer {
     NoneRemainder(Ore<TopElem>),
     /// There is no quotient, for the other factor has this constant.
     NoneConstant(TopElem),
+    /// A constant that is an isomorphism of two modules, None where there is none.
+    Iso(Option<TopElem>),
+    /// An isogeny of two modules, None where there is none.
+    Isogenous(Option<Ore<TopElem>>),
+    /// The members of a list of homomorphisms, in the order of their leads.
+    Members(Items<Ore<TopElem>>),
+    /// How many members a full list has, and the greatest of their degrees, None where it has none.
+    Count {
+        members: u32,
+        degree: Option<usize>,
+    },
+    /// Motive coordinates: polynomials in `T` over the top field, one for each power of `t` below the rank.
+    Motive(Items<Poly<TopElem>>),
+    /// A relation of Frobenius: polynomials in `T` over the base, the coefficients in `X`, lowest first.
+    Relation(Items<Poly<Code>>),
+    /// The degree `m` of the least relation of Frobenius doesn't divide the rank `r`.
+    NoPower {
+        m: usize,
+        r: usize,
+    },
 }

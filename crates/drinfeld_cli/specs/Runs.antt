@@ -9,7 +9,7 @@ use Rattle.statement_operands.specs.declared.Stop.TheVariants as stop
 use Rattle.session.specs.State.{State, first_state}
 use Rattle.session.specs.Steps.{Answers, Stops}
 use Rattle.drinfeld_cli.specs.declared.status.Status.{Status}
-use Rattle.drinfeld_cli.specs.declared.status.Status.TheVariants.{Done, Size, Meaning, NotBuilt, NoMemory, WriteFault}
+use Rattle.drinfeld_cli.specs.declared.status.Status.TheVariants.{Done, Size, Meaning, NoMemory, WriteFault}
 
 -- What is written for a statement, from the state before it, its answer and the state after it.
 abbrev pub Piece : Type 0
@@ -73,7 +73,6 @@ pub record IsCut (piece : Piece) (list : List Statement) (before after : Option 
 abbrev pub status_of : Stop → ℕ → Status
 status_of (stop.Meaning kind) line = Meaning kind line
 status_of (stop.Size which) line = Size which line
-status_of stop.NotBuilt line = NotBuilt line
 status_of stop.NoMemory line = NoMemory
 
 -- What a status says of the statements and of what was written.
@@ -81,7 +80,6 @@ abbrev pub Ended : Piece → List Statement → Option (List ℕ) → Option (Li
 Ended piece list before after failed Done = (st : State) × HasRun piece list (length list) st before after
 Ended piece list before after failed (Meaning kind line) = IsStopped piece list (stop.Meaning kind) line before after
 Ended piece list before after failed (Size which line) = IsStopped piece list (stop.Size which) line before after
-Ended piece list before after failed (NotBuilt line) = IsStopped piece list stop.NotBuilt line before after
 Ended piece list before after failed NoMemory = (k : ℕ) × (st : State) × HasRun piece list k st before after
 Ended piece list before after failed WriteFault = failed × IsCut piece list before after
 Ended piece list before after failed s = ⊥

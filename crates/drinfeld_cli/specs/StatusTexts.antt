@@ -5,7 +5,7 @@ use Rattle.script_parse.specs.declared.SizeKind.TheVariants as size
 use Rattle.statement_operands.specs.declared.MeaningKind.{MeaningKind}
 use Rattle.statement_operands.specs.declared.MeaningKind.TheVariants as meaning
 use Rattle.drinfeld_cli.specs.declared.status.Status.{Status}
-use Rattle.drinfeld_cli.specs.declared.status.Status.TheVariants.{Done, Words, Syntax, Size, Meaning, NotBuilt, NoMemory, ReadFault, WriteFault}
+use Rattle.drinfeld_cli.specs.declared.status.Status.TheVariants.{Done, Words, Syntax, Size, Meaning, NoMemory, ReadFault, WriteFault}
 
 abbrev pub code_of : Status → ℕ
 code_of Done = 0
@@ -16,7 +16,6 @@ code_of (Meaning kind line) = 5
 code_of NoMemory = 6
 code_of ReadFault = 7
 code_of WriteFault = 8
-code_of (NotBuilt line) = 9
 
 abbrev pub size_text : SizeKind → List ℕ
 size_text size.Script = codes "too large: script\n"
@@ -54,7 +53,6 @@ cause_text Words = codes "words refused\n"
 cause_text (Syntax line) = codes "not a statement\n"
 cause_text (Size which line) = size_text which
 cause_text (Meaning kind line) = meaning_text kind
-cause_text (NotBuilt line) = codes "not built yet\n"
 cause_text NoMemory = codes "out of memory\n"
 cause_text ReadFault = codes "read failed\n"
 cause_text WriteFault = codes "write failed\n"
@@ -65,7 +63,6 @@ line_of (Syntax line) = Some line
 line_of (Size which zero) = None
 line_of (Size which (suc line)) = Some (suc line)
 line_of (Meaning kind line) = Some line
-line_of (NotBuilt line) = Some line
 line_of s = None
 
 -- A text behind the line that is to blame, where there is one.

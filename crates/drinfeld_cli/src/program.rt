@@ -137,7 +137,7 @@ fn answer<I: Source, O: Sink>(
 /// - `Size` of the script, without a line: exactly where more than 65,536 bytes came; nothing is written.
 /// - `Syntax`, and `Size` with a line: the first line at fault is no statement, or passes a limit; nothing
 ///   is written.
-/// - `Meaning`, `NotBuilt`, and `Size` of a degree: the first statement that has no answer; the texts of
+/// - `Meaning`, and `Size` of a degree: the first statement that has no answer; the texts of
 ///   the statements before it are written.
 /// - `WriteFault`: only where the count of faults of `output` rose; the texts of the statements before one of
 ///   them are written, and a front of that one's.

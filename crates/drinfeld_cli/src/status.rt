@@ -18,8 +18,6 @@ pub enum Status {
     Size { which: SizeKind, line: u32 },
     /// The statement in the line has no meaning.
     Meaning { kind: MeaningKind, line: u32 },
-    /// Statements of the form of this line aren't answered yet.
-    NotBuilt { line: u32 },
     /// Memory was refused.
     NoMemory,
     /// A read of the script failed.
@@ -42,7 +40,6 @@ impl Status {
             Status::NoMemory => 6,
             Status::ReadFault => 7,
             Status::WriteFault => 8,
-            Status::NotBuilt { .. } => 9,
         }
     }
 
@@ -53,7 +50,6 @@ impl Status {
         match stop {
             Stop::Meaning(kind) => Status::Meaning { kind, line },
             Stop::Size(which) => Status::Size { which, line },
-            Stop::NotBuilt => Status::NotBuilt { line },
             Stop::NoMemory => Status::NoMemory,
         }
     }
@@ -64,10 +60,9 @@ impl Status {
     {
         match *self {
             Status::Size { line: 0, .. } => None,
-            Status::Syntax { line }
-            | Status::Size { line, .. }
-            | Status::Meaning { line, .. }
-            | Status::NotBuilt { line } => Some(line),
+            Status::Syntax { line } | Status::Size { line, .. } | Status::Meaning { line, .. } => {
+                Some(line)
+            }
             _ => None,
         }
     }
@@ -82,7 +77,6 @@ impl Status {
             Status::Syntax { .. } => b"not a statement\n",
             Status::Size { which, .. } => text_of_size(which),
             Status::Meaning { kind, .. } => text_of_meaning(kind),
-            Status::NotBuilt { .. } => b"not built yet\n",
             Status::NoMemory => b"out of memory\n",
             Status::ReadFault => b"read failed\n",
             Status::WriteFault => b"write failed\n",

@@ -1,4 +1,4 @@
--- The refusals of a statement that values tell, in their order: a form that isn't answered yet, the field,
+-- The refusals of a statement that values tell, in their order: the field,
 -- an operand that isn't defined or is of the other kind, a new name that is taken; then, for the forms
 -- that set a field, a polynomial that isn't monic of the stated degree, and what the work of the others
 -- refuses.
@@ -25,7 +25,6 @@ use Rattle.statement_operands.specs.declared.Stop.TheVariants as stop
 use Rattle.statement_operands.specs.Asked.{unknown_name, wrong_kind, name_taken}
 use Rattle.statement_operands.specs.Demands.{Demands, demands}
 use Rattle.operand_value.specs.Operands.{base_modulus, top_modulus}
-use Rattle.statement_work.specs.Built.{is_built}
 use Rattle.statement_work.specs.Refusals.{when, work_refusal}
 use Rattle.session.specs.State.{State}
 
@@ -77,6 +76,5 @@ value_refusal k ns f = refusal_over (top_of k) k ns f
 -- The first refusal that applies, of all that values tell.
 abbrev pub refusal : State → Form → Option Stop
 refusal st f =
-    option_or (when (not (is_built f)) stop.NotBuilt)
-    (option_or (option_map (λ k. stop.Meaning k) (name_refusal st (demands f)))
-    (value_refusal st.field st.names f))
+    option_or (option_map (λ k. stop.Meaning k) (name_refusal st (demands f)))
+    (value_refusal st.field st.names f)

@@ -6,7 +6,6 @@ ghost use Rattle.statement_operands.specs.Names.{value_of};
 ghost use Rattle.statement_operands.specs.Resolved.{AreOperands};
 ghost use Rattle.statement_operands.specs.Seen.{seen};
 ghost use Rattle.statement_operands.specs.Sound.{AreValues};
-ghost use Rattle.statement_work.specs.Built.{is_built};
 ghost use Rattle.statement_work.specs.Refusals.{work_refusal};
 ghost use Rattle.statement_work.specs.Results.{gives_value, named_value};
 ghost use Rattle.statement_work.specs.Works.{Works};
@@ -67,7 +66,6 @@ pub(crate) fn answer_over(
     requires kind { wrong_kind names.old (demands form.now) ≡ false }
     requires free { name_taken names.old (demands form.now) ≡ false }
     requires fits { DemandsFit (demands form.now) }
-    requires built { is_built form.now ≡ true }
     requires over { (demands form.now).field ≡ Need.ATop }
     ensures ok { IfOk result (λ a. (work_refusal t.now names.old form.now ≡ None) × Works t.now names.old form.now a
         × (names.new ≡ with_name (demands form.now).gives (named_value a) names.old)) }

@@ -13,7 +13,6 @@ use super::state::Session;
 use answer::{Answer, FieldState, Printing};
 use script_parse::Statement;
 use statement_operands::{Names, Stop, asked_by};
-use statement_work::is_built;
 use std::alloc::Global;
 
 impl Session {
@@ -39,18 +38,14 @@ impl Session {
         }
     }
 
-    /// Answers a statement, or says why it stops; after a stop the field and the names are as before. A
-    /// form that isn't answered yet stops before anything else is looked at. Then come the field that
-    /// the form needs, an operand that isn't defined, an operand of the other kind, a new name that is
+    /// Answers a statement, or says why it stops; after a stop the field and the names are as before.
+    /// What is looked at first is the field that the form needs, an operand that isn't defined, an operand of the other kind, a new name that is
     /// taken, and what the work of the form refuses. The room for a new name is taken before the work.
     pub fn step(&mut self, statement: &Statement) -> Result<Answer, Stop>
         requires { IsWithin version_1 statement.now.form }
         ensures { Does (state_of self.old) statement.now.form result (state_of self.new) }
     {
         let form = &statement.form;
-        if !is_built(form) {
-            return Err(Stop::NotBuilt);
-        }
         let d = asked_by(form);
         match name_refusal(&self.field, &self.names, &d) {
             Some(kind) => return Err(Stop::Meaning(kind)),

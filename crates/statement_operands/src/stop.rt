@@ -40,8 +40,6 @@ pub enum Stop {
     Meaning(MeaningKind),
     /// It passes a limit that its operands show.
     Size(SizeKind),
-    /// Statements of its form aren't answered yet.
-    NotBuilt,
     /// Memory was refused.
     NoMemory,
 }

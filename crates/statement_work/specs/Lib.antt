@@ -1,4 +1,4 @@
-pub mod Built
+pub mod Greatest
 pub mod Refusals
 pub mod Results
 pub mod Works

@@ -49,6 +49,11 @@ own_refusal t ns (form.J m k) = when (not (has_invariant (module_value t ns m) k
 own_refusal t ns (form.Rdiv u v) = when (is_nil (twisted_value t ns v)) meaning.ZeroDivisor
 own_refusal t ns (form.Ldiv u v) = when (is_nil (twisted_value t ns v)) meaning.ZeroDivisor
 own_refusal t ns (form.Check m n u) = when (constants_differ (ops_of_top t) (module_value t ns m) (module_value t ns n)) meaning.OtherConstant
+own_refusal t ns (form.Iso m n) = when (constants_differ (ops_of_top t) (module_value t ns m) (module_value t ns n)) meaning.OtherConstant
+own_refusal t ns (form.Isogenous m n) = when (constants_differ (ops_of_top t) (module_value t ns m) (module_value t ns n)) meaning.OtherConstant
+own_refusal t ns (form.Bounded m n d) = when (constants_differ (ops_of_top t) (module_value t ns m) (module_value t ns n)) meaning.OtherConstant
+own_refusal t ns (form.Full m n) = when (constants_differ (ops_of_top t) (module_value t ns m) (module_value t ns n)) meaning.OtherConstant
+own_refusal t ns (form.Fullsize m n) = when (constants_differ (ops_of_top t) (module_value t ns m) (module_value t ns n)) meaning.OtherConstant
 own_refusal t ns f = None
 
 -- The first refusal that applies, over a top field and with names that meet what the form asks.

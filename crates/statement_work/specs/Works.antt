@@ -1,5 +1,5 @@
 -- The answers of the statements over a top field, from the values of their operands.
-use Rattle.std.specs.Prelude.{◌≡◌, ℕ, ◌↔◌, Bool, IsTrue, Option, Some, None, List, Ok, Err}
+use Rattle.std.specs.Prelude.{◌≡◌, ℕ, ◌↔◌, Bool, IsTrue, Option, Some, None, List, length, Ok, Err}
 use Rattle.ring_core.specs.Twisted.{list_add, list_neg, list_mul}
 use Rattle.residue_field.specs.Top.{Top, ops_of_top, frob_of_top}
 use Rattle.morphism.specs.Homomorphism.{IsHomomorphism}
@@ -16,6 +16,13 @@ use Rattle.drinfeld_mod.specs.Height.{IsCharacteristic, IsHeight}
 use Rattle.drinfeld_mod.specs.Invariant.{IsInvariant}
 use Rattle.kernel_quotient.specs.declared.NoQuotient.TheVariants.{Zero, Remainder, Constant}
 use Rattle.kernel_quotient.specs.Quotient.{IsQuotientAnswer}
+use Rattle.hom_space.specs.Bounded.{IsBoundedList}
+use Rattle.hom_space.specs.Full.{IsFullList}
+use Rattle.isomorphism.specs.Isomorphism.{IsFirstIsomorphism, HasNoIsomorphism}
+use Rattle.isomorphism.specs.Isogeny.{IsFirstIsogeny, HasNoIsogeny}
+use Rattle.motive_coords.specs.Motive.{IsMotive}
+use Rattle.frobenius_rel.specs.Relation.{IsLeastRelation}
+use Rattle.frobenius_rel.specs.RankPower.{IsRankPower, AreDegrees}
 use Rattle.script_statement.specs.declared.Form.{Form}
 use Rattle.script_statement.specs.declared.Form.TheVariants as form
 use Rattle.answer.specs.declared.Answer.{Answer}
@@ -25,6 +32,7 @@ use Rattle.answer.specs.declared.Value.TheVariants as value
 use Rattle.statement_operands.specs.Names.{value_of}
 use Rattle.statement_operands.specs.Values.{module_value, twisted_value}
 use Rattle.operand_value.specs.Operands.{list_values, base_polynomial}
+use Rattle.statement_work.specs.Greatest.{greatest_degree}
 
 -- The answer is yes exactly where the fact holds, and else no.
 abbrev pub IsTruth : Answer → Type 0 → Type 0
@@ -60,8 +68,45 @@ IsQuotientOf t phi u (answer.NoneRemainder rest) = IsQuotientAnswer (ops_of_top 
 IsQuotientOf t phi u (answer.NoneConstant c) = IsQuotientAnswer (ops_of_top t) (frob_of_top t).frob phi u (Err (Constant c))
 IsQuotientOf t phi u a = ⊥
 
--- The answer of a form whose operands have these values, where nothing refuses it. A form that isn't
--- answered yet has none.
+-- A list of homomorphisms is the answer, and it is such a list.
+abbrev pub IsMembersOf : Answer → (List (List TopElem) → Type 0) → Type 0
+IsMembersOf a P = (list : List (List TopElem)) × (a ≡ answer.Members list) × P list
+
+-- The bounded list for the degree `d`, and the full list, of homomorphisms from a module to another.
+abbrev pub IsItsBoundedList : Top → List TopElem → List TopElem → ℕ → List (List TopElem) → Type 0
+IsItsBoundedList t phi psi d list = IsBoundedList (ops_of_top t) (ops_of t.base) (frob_of_top t) phi psi d list
+
+abbrev pub IsItsFullList : Top → List TopElem → List TopElem → List (List TopElem) → Type 0
+IsItsFullList t phi psi list = IsFullList (ops_of_top t) (ops_of t.base) (frob_of_top t) phi psi list
+
+-- The number of members of the full list, and the greatest of their degrees.
+abbrev pub IsCountOf : Top → List TopElem → List TopElem → Answer → Type 0
+IsCountOf t phi psi a = (list : List (List TopElem)) × (a ≡ answer.Count (length list) (greatest_degree list)) × IsItsFullList t phi psi list
+
+-- The first isomorphism over the field, or that there is none.
+abbrev pub IsIsomorphismOf : Top → List TopElem → List TopElem → Answer → Type 0
+IsIsomorphismOf t phi psi (answer.Iso (Some c)) = IsFirstIsomorphism (ops_of_top t) (ops_of t.base) (frob_of_top t) phi psi c
+IsIsomorphismOf t phi psi (answer.Iso None) = HasNoIsomorphism (ops_of_top t) (frob_of_top t) phi psi
+IsIsomorphismOf t phi psi a = ⊥
+
+-- The first isogeny, or that there is none.
+abbrev pub IsIsogenyOf : Top → List TopElem → List TopElem → Answer → Type 0
+IsIsogenyOf t phi psi (answer.Isogenous (Some u)) = IsFirstIsogeny (ops_of_top t) (ops_of t.base) (frob_of_top t) phi psi u
+IsIsogenyOf t phi psi (answer.Isogenous None) = HasNoIsogeny (ops_of_top t) (frob_of_top t) phi psi
+IsIsogenyOf t phi psi a = ⊥
+
+-- The least relation of Frobenius.
+abbrev pub IsItsLeastRelation : Top → List TopElem → List (List ℕ) → Type 0
+IsItsLeastRelation t phi list = IsLeastRelation (ops_of_top t) (ops_of t.base) (frob_of_top t) phi list
+
+-- Its power of the degree of the rank, or why there is none.
+abbrev pub IsPowerOf : Top → List TopElem → Answer → Type 0
+IsPowerOf t phi (answer.Relation list) = IsRankPower (ops_of_top t) (ops_of t.base) (frob_of_top t) phi list
+IsPowerOf t phi (answer.NoPower m r) = AreDegrees (ops_of_top t) (ops_of t.base) (frob_of_top t) phi m r
+IsPowerOf t phi a = ⊥
+
+-- The answer of a form whose operands have these values, where nothing refuses it; the forms that set a
+-- field have none here.
 abbrev pub Works : Top → List (List ℕ × Value) → Form → Answer → Type 0
 Works t ns (form.Module name list) a = a ≡ answer.Named name (value.Module (list_values t list))
 Works t ns (form.Ore name u) a = a ≡ answer.Named name (value.Ore (twisted_value t ns u))
@@ -86,4 +131,14 @@ Works t ns (form.Multiple u v) a = IsMultipleOf t (twisted_value t ns u) (twiste
 Works t ns (form.Check m n u) a =
     IsTruth a (IsHomomorphism (ops_of_top t) (frob_of_top t).frob (module_value t ns m) (module_value t ns n) (twisted_value t ns u))
 Works t ns (form.Quotient m u name) a = IsQuotientOf t (module_value t ns m) (twisted_value t ns u) a
-Works t ns f a = ⊥
+Works t ns (form.Iso m n) a = IsIsomorphismOf t (module_value t ns m) (module_value t ns n) a
+Works t ns (form.Isogenous m n) a = IsIsogenyOf t (module_value t ns m) (module_value t ns n) a
+Works t ns (form.Bounded m n d) a = IsMembersOf a (λ list. IsItsBoundedList t (module_value t ns m) (module_value t ns n) d list)
+Works t ns (form.Full m n) a = IsMembersOf a (λ list. IsItsFullList t (module_value t ns m) (module_value t ns n) list)
+Works t ns (form.Fullsize m n) a = IsCountOf t (module_value t ns m) (module_value t ns n) a
+Works t ns (form.Motive m u) a =
+    (list : List (List TopElem)) × (a ≡ answer.Motive list) × IsMotive (ops_of_top t) (frob_of_top t).frob (module_value t ns m) (twisted_value t ns u) list
+Works t ns (form.Frob m) a = (list : List (List ℕ)) × (a ≡ answer.Relation list) × IsItsLeastRelation t (module_value t ns m) list
+Works t ns (form.Frobpower m) a = IsPowerOf t (module_value t ns m) a
+Works t ns (form.Base p s modulus) a = ⊥
+Works t ns (form.Over n modulus) a = ⊥

@@ -8,7 +8,6 @@ ghost use Rattle.answer.specs.declared.Value.{Value};
 ghost use Rattle.statement_operands.specs.Asked.{unknown_name};
 ghost use Rattle.statement_operands.specs.Demands.{demands};
 ghost use Rattle.statement_operands.specs.Resolved.{AreOperands};
-ghost use Rattle.statement_work.specs.Built.{is_built};
 ghost use Rattle.statement_work.specs.Refusals.{own_refusal};
 ghost use Rattle.statement_work.specs.Works.{Works};
 
@@ -21,6 +20,6 @@ pub fn one_answer()
 
 /// A form over a top field, whose operands have values and which nothing refuses, has an answer.
 pub fn some_answer()
-    ensures { (t : Top) (ns : List (List ℕ × Value)) (f : Form) → AreOperands t ns (demands f) → is_built f ≡ true → (demands f).field ≡ Need.ATop
+    ensures { (t : Top) (ns : List (List ℕ × Value)) (f : Form) → AreOperands t ns (demands f) → (demands f).field ≡ Need.ATop
         → unknown_name ns (demands f) ≡ false → own_refusal t ns f ≡ None → (a : Answer) × Works t ns f a }
 {}

@@ -1,8 +1,6 @@
-//! The work of the statements: which forms are answered, and what each answers or refuses, from the
-//! values of its operands.
+//! The work of the statements: what each form answers or refuses, from the values of its operands.
 #![tactic(auto)]
 
-mod built;
 mod copies;
 mod division;
 mod homomorphism;
@@ -13,6 +11,5 @@ mod names;
 mod sums;
 mod work;
 
-pub use built::is_built;
 pub use copies::named_value;
 pub use work::answer_of;

@@ -6,7 +6,6 @@ ghost use Rattle.statement_operands.specs.Ranks.{unranked_operands};
 ghost use Rattle.statement_operands.specs.Resolved.{held, AreOperands, AreResolved};
 ghost use Rattle.statement_operands.specs.Seen.{seen};
 ghost use Rattle.statement_operands.specs.Sound.{AreValues};
-ghost use Rattle.statement_work.specs.Built.{is_built};
 ghost use Rattle.statement_work.specs.Refusals.{work_refusal};
 ghost use Rattle.statement_work.specs.Results.{gives_value};
 ghost use Rattle.statement_work.specs.Works.{Works};
@@ -47,7 +46,6 @@ fn work(
     requires fits { DemandsFit (demands form.now) }
     requires resolved { AreResolved t.now names.now (demands form.now) o.now }
     requires ranked { unranked_operands t.now (demands form.now) ≡ false }
-    requires built { is_built form.now ≡ true }
     requires over { (demands form.now).field ≡ Need.ATop }
     ensures ok { IfOk result (λ a. (work_refusal t.now names.now form.now ≡ None) × Works t.now names.now form.now a) }
     ensures elem { IfOk result (λ a. gives_value t.now a ≡ true) }
@@ -90,7 +88,6 @@ pub fn answer_of(
     requires known { unknown_name names.now (demands form.now) ≡ false }
     requires kind { wrong_kind names.now (demands form.now) ≡ false }
     requires fits { DemandsFit (demands form.now) }
-    requires built { is_built form.now ≡ true }
     requires over { (demands form.now).field ≡ Need.ATop }
     ensures ok { IfOk result (λ a. (work_refusal t.now names.now form.now ≡ None) × Works t.now names.now form.now a) }
     ensures operands { IfOk result (λ a. AreOperands t.now names.now (demands form.now)) }
