@@ -131,12 +131,18 @@ printf '%s\n' '# layers' 'low: kit_crate' 'side: # alone' 'high: low' 'tests_hig
 touch "$crate/stdin" "$crate/src/main.rt" "$crate/src/other.rt"
 cat >"$folder/bin/rt" <<'STUB'
 #!/usr/bin/env bash
-[[ -e fails ]] && echo 'a fault' && exit 1
-[[ -e edits ]] && sleep 0.05 && touch src/main.rt && rm edits
-basename "$PWD" >>../../proved
-[[ $1 == run ]] || exit 0
-mkdir -p out && echo built >>out/builds
-printf '#!/bin/sh\ngrep -c built "%s"\n' "$PWD/out/builds" >out/drinfeld
+if [[ $1 == all ]]; then
+    for name in low side high tests_high drinfeld; do
+        grep -q "^$name:" crates.txt || continue
+        [[ -e crates/$name/src/fails ]] && echo 'a fault' && exit 1
+        echo "== $name"
+        echo "$name" >>../../../../proved
+    done
+    exit
+fi
+[[ -e src/edits ]] && sleep 0.05 && touch ../../../../src/main.rt && rm ../../../../src/edits
+mkdir -p out && echo built >>../../../../builds
+printf '#!/bin/sh\ngrep -c built "%s"\n' "$(readlink -f ../../../../builds)" >out/drinfeld
 chmod +x out/drinfeld
 STUB
 chmod +x "$folder/bin/rt"
@@ -151,9 +157,8 @@ launch() {
 }
 
 launch 'nothing built' 1
-[[ $(sort "$tree/proved" | tr '\n' ' ') == 'drinfeld high low side ' ]] || fail "launcher: proved $(<"$tree/proved")"
-[[ $(grep -E 'low|high|drinfeld' "$tree/proved" | tr '\n' ' ') == 'low high drinfeld ' ]] || fail "launcher: in the order $(<"$tree/proved")"
-grep -qx 'drinfeld: proving high, [0-9] more to begin' "$folder/errors" || fail "launcher: told $(<"$folder/errors")"
+[[ $(tr '\n' ' ' <"$tree/proved") == 'low side high drinfeld ' ]] || fail "launcher: proved $(<"$tree/proved")"
+grep -qx 'drinfeld: proved high, 1 more to prove' "$folder/errors" || fail "launcher: told $(<"$folder/errors")"
 launch 'nothing changed' 1
 touch "$crate/src/main.rt"
 launch 'a source changed' 2
@@ -163,16 +168,15 @@ touch "$tree/crates/tests_high/src/lib.rt"
 launch 'a source on which the program does not stand' 3
 rm "$crate/src/other.rt"
 launch 'a source is gone' 4
-touch "$crate/edits" "$crate/src/main.rt"
+touch "$crate/src/edits" "$crate/src/main.rt"
 launch 'a source changes during the build' 5
 launch 'it is built again' 6
 launch 'and then stays' 6
 
-touch "$tree/crates/low/fails" "$tree/crates/low/src/lib.rt"
+touch "$tree/crates/high/src/fails" "$tree/crates/low/src/lib.rt"
 PATH=$folder/bin:$PATH "$tree/drinfeld" >"$folder/output" 2>"$folder/errors"
 status=$?
 [[ $status -eq 1 && ! -s $folder/output ]] || fail "launcher, a proof that fails: status $status"
 grep -qx 'a fault' "$folder/errors" && grep -qx 'drinfeld: the program was not built' "$folder/errors" || fail "launcher, a proof that fails: told $(<"$folder/errors")"
-grep -q 'proving high' "$folder/errors" && fail 'launcher, a proof that fails: went on above it'
 
 exit $((failures > 0))
