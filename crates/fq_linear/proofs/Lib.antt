@@ -6,5 +6,7 @@ pub mod Steps
 pub mod Gathered
 pub mod Leads
 pub mod Basis
+pub mod Relations
 pub mod Solutions
 pub mod Results
+pub mod Exists

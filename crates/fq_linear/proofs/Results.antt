@@ -1,26 +1,26 @@
 -- What the eliminated rows tell: the echelon basis, the relations, solutions and the first dependence.
-use Rattle.linear_algebra.proofs.RowLists.{row_len, row_elems, rows_in}
+use Rattle.linear_algebra.proofs.RowLists.{row_elems, rows_in}
 use Rattle.std.proofs.Common.{◌≡◌, ◌≢◌, ℕ, zero, suc, ◌+◌, ◌-◌, ◌*◌, ◌<◌, ◌≤◌, ◌↔◌, Option, Some, is_some, slice_range, Bool, true, false, cond, List, length, map, nat_lt, nat_eq, refl, sym, ◌∙◌, ap, ap₂, subst, arith, zero-add, eq-eqb, le-ltb}
 use Rattle.std.proofs.lemmas.Bool.{and_from, cond_both}
 use Rattle.ring_core.specs.Ring.{RingOps, IsElem, IsRing}
 use Rattle.ring_core.specs.Field.{IsField}
 use Rattle.ring_core.specs.Coeffs.{coeff, are_elems, first_values}
 use Rattle.ring_core.proofs.Carrier.{RingOn, Element, elements, same_element, neg_zero}
-use Rattle.ring_core.proofs.Coefficients.{elem_read, coeff_past, elems-first_values}
+use Rattle.ring_core.proofs.Coefficients.{elem_read, elems-first_values}
 use Rattle.ring_core.proofs.FirstValues.{length-first_values, at-first_values}
 use Rattle.linear_algebra.specs.Combines.{Combines, combined}
 use Rattle.linear_algebra.specs.steps.Slots.{minus, beside}
 use Rattle.linear_algebra.specs.Linear.{entry, is_row, are_rows, IsCombination, IsRelation, IsDependent, IsIndependent, IsSolution, IsEchelonBasis, IsFirstDependence}
-use Rattle.linear_algebra.proofs.Sums.{combine}
 use Rattle.linear_algebra.proofs.Spans.{Spans, span_as, span_rows, span_into}
-use Rattle.linear_algebra.proofs.Augment.{augmented as augmented_on, Eliminates, all_relations, no_relation, relations_span, dependent_is_lead, lead_depends, solution, nothing_left}
-use Rattle.linear_algebra.proofs.Lift.{AllIn, AreIn, row_of, rows_of, to_spans, from_spans, to_reduced, combines_into, combines_as, combines_rows, combine_value}
+use Rattle.linear_algebra.proofs.Augment.{augmented as augmented_on, Eliminates, no_relation, dependent_is_lead, lead_depends, solution, nothing_left}
+use Rattle.linear_algebra.proofs.Lift.{AllIn, AreIn, row_of, rows_of, to_spans, to_reduced, combines_into, combines_as, combines_rows, combine_value}
 use Rattle.fq_linear.specs.steps.Places.{unit_row}
 use Rattle.fq_linear.specs.steps.Elimination.{row_number, is_lead, numbered_cells, slot, augmented, IsEliminated, IsReducedTarget}
 use Rattle.fq_linear.proofs.Slots.{slot_in, augmented_in}
 use Rattle.fq_linear.proofs.Gathered.{low_cells, low_shape, low_same, cut_length}
 use Rattle.fq_linear.proofs.Places.{elems_range, range_place}
 use Rattle.fq_linear.proofs.Basis.{basis_of}
+use Rattle.fq_linear.proofs.Relations.{relation_on, row_in, row_past, kernel_spans}
 use Rattle.linear_algebra.proofs.Gather.{leads}
 
 cond_value : {E : Type 0} (r : RingOps E) (b : Bool) (x y : Element r) → (cond b x y).0 ≡ cond b x.0 y.0
@@ -118,31 +118,13 @@ module _ {E : Type 0} (r : RingOps E) (inv : E → Option E) (field : IsField r 
     ne : R.one ≢ R.zero
     ne e = field.one_ne_zero (ap (λ x. x.0) e)
 
-    -- relations in the ring of elements
-    relation_on : (c : List E) (ci : AreIn r (coeff r c)) → IsRelation r rows c → (j : ℕ) → combine R n (row_of r (coeff r c) ci) v j ≡ R.zero
-    relation_on c ci e j = same_element r _ _ (combine_value r h n (row_of r (coeff r c) ci) v j ∙ e j)
-
-    row_in : (c : List E) → is_row r n c ≡ true → AreIn r (coeff r c)
-    row_in c cr = elem_read r c h.closed.zero_in (row_elems r n c cr)
-
-    row_past : (c : List E) (cr : is_row r n c ≡ true) (k : ℕ) → n ≤ k → row_of r (coeff r c) (row_in c cr) k ≡ R.zero
-    row_past c cr k l = same_element r _ _ (coeff_past r c k (omega (arith, row_len r n c cr, l)))
-
-    pub kernel_spans : (c : List E) → is_row r n c ≡ true → IsRelation r rows c ↔ Combines r n slots (coeff r c)
-    kernel_spans c cr =
-        let ci = row_in c cr in (
-          λ e. from_spans r h n slots si (coeff r c) ci
-              (all_relations R n w v (is_lead index) (rows_of r slots si) eliminates (row_of r (coeff r c) ci) (relation_on c ci e) (row_past c cr)),
-          λ s j. sym (combine_value r h n (row_of r (coeff r c) ci) v j)
-              ∙ ap (λ x. x.0) (relations_span R n w v (is_lead index) (rows_of r slots si) eliminates (row_of r (coeff r c) ci) (to_spans r h n slots si (coeff r c) ci s) j),
-        )
-
     pub kernel_is : (basis : List (List E)) → basis ≡ map (low_cells (n + w) n index cells) (leads (is_lead index) n) → IsEchelonBasis r n (IsRelation r rows) basis
+    unfolding vi
     kernel_is basis b =
         subst (IsEchelonBasis r n (IsRelation r rows)) (sym b)
         (basis_of r inv field n (n + w) (is_lead index) slots si t.table.reduced
         (low_cells (n + w) n index cells) (low_shape r h (n + w) n index cells t.table (omega arith)) (low_same r h (n + w) n index cells t.table (omega arith))
-        (IsRelation r rows) kernel_spans)
+        (IsRelation r rows) (kernel_spans r inv field w rows ri (is_lead index) slots si eliminates))
 
     pub dependent_lead : (k : ℕ) → k < n → IsDependent r rows k → is_lead index k ≡ true
     dependent_lead k l s =
@@ -150,9 +132,10 @@ module _ {E : Type 0} (r : RingOps E) (inv : E → Option E) (field : IsField r 
 
     -- no lead below `n`: the rows are independent
     pub independent : ((j : ℕ) → j < n → is_lead index j ≡ false) → IsIndependent r rows
+    unfolding vi
     independent none c cr e i =
         ap (λ x. x.0)
-        (no_relation R n w v (is_lead index) (rows_of r slots si) eliminates (row_of r (coeff r c) (row_in c cr)) (relation_on c (row_in c cr) e) (row_past c cr)
+        (no_relation R n w v (is_lead index) (rows_of r slots si) eliminates (row_of r (coeff r c) (row_in r inv field w rows ri c cr)) (relation_on r inv field w rows ri c (row_in r inv field w rows ri c cr) e) (row_past r inv field w rows ri c cr)
         (λ k l m. absurd (never k l m)) i)
       where
         never : (k : ℕ) → k < n → is_lead index k ≡ true → ⊥

@@ -6,3 +6,5 @@ mod Dividing
 mod RelationBasis
 mod Members
 mod RowBases
+mod SettledRows
+pub mod Exists
