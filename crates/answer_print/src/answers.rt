@@ -1,12 +1,14 @@
 //! Whole answers.
-ghost use Rattle.std.specs.Prelude.{◌≡◌, ◌++◌, None, Some, codes, IfOk, OnOk, OnErr};
+ghost use Rattle.std.specs.Prelude.{◌≡◌, ◌++◌, [], None, Some, codes, IfOk, OnOk, OnErr};
 ghost use Rattle.answer.specs.Texts.{text_of, text_over, field_of, line, value_text};
 
-use super::elements::{write_module, write_polynomial, write_twisted};
+use super::elements::{write_module, write_twisted};
 use super::lines::{
     write_cofactors, write_division, write_element_line, write_module_line, write_number_line,
-    write_truth, write_twisted_line,
+    write_numbers_line, write_polynomial_line, write_truth, write_twisted_line,
 };
+use super::members::{write_count, write_members};
+use super::relations::{write_coordinates, write_relation};
 use answer::{Answer, Printing, Value};
 use field_tower::Tower;
 use ring_core::{FrobField, NoMemory};
@@ -46,17 +48,43 @@ fn write_named(
     Ok(())
 }
 
+/// Appends the line of what a name stands for.
+fn write_shown(
+    alloc: Global,
+    into: &mut Vec<u8>,
+    top: &Tower,
+    value: &Value,
+) -> Result<(), NoMemory>
+    ensures { OnOk result (into.new.items ≡ into.old.items ++ line [] (value_text top.now value.now)) }
+{
+    write_value(alloc, into, top, value)?;
+    into.extend_from_slice(b"\n")?;
+    Ok(())
+}
+
 /// The lines of an answer without elements; nothing for another.
 #[tactic(auto, unfolding(answer::specs::Texts::text_over))]
 fn write_plain(into: &mut Vec<u8>, answer: &Answer) -> Result<(), NoMemory>
     ensures { OnOk result (into.new.items ≡ into.old.items ++ text_over None answer.now) }
 {
     match answer {
-        Answer::Q(q) => write_number_line(into, b"q = ", *q),
-        Answer::N(n) => write_number_line(into, b"n = ", *n),
-        Answer::Number(n) => write_number_line(into, b"", *n),
+        Answer::Q(q) => write_number_line(into, b"q = ", *q as usize),
+        Answer::N(n) => write_number_line(into, b"n = ", *n as usize),
+        Answer::Number(n) => write_number_line(into, b"", *n as usize),
         Answer::Truth(yes) => write_truth(into, *yes),
         Answer::NoneZero => Ok(into.extend_from_slice(b"no quotient: zero\n")?),
+        Answer::Iso(None) => Ok(into.extend_from_slice(b"not isomorphic\n")?),
+        Answer::Isogenous(None) => Ok(into.extend_from_slice(b"not isogenous\n")?),
+        Answer::Count { members, degree } => write_count(into, *members, *degree),
+        Answer::NoPower { m, r } => {
+            write_numbers_line(
+                into,
+                b"no power: degree ",
+                *m,
+                b" does not divide rank ",
+                *r,
+            )
+        }
         _ => Ok(()),
     }
 }
@@ -73,14 +101,8 @@ fn write_over(
 {
     match answer {
         Answer::Named(name, value) => write_named(alloc, into, top, name, value),
-        Answer::Shown(value) => {
-            write_value(alloc, into, top, value)?;
-            Ok(into.extend_from_slice(b"\n")?)
-        }
-        Answer::BasePoly(list) => {
-            write_polynomial(alloc, into, top.base(), list.as_slice())?;
-            Ok(into.extend_from_slice(b"\n")?)
-        }
+        Answer::Shown(value) => write_shown(alloc, into, top, value),
+        Answer::BasePoly(list) => write_polynomial_line(alloc, into, top.base(), list),
         Answer::Element(c) => write_element_line(alloc, into, top, b"", *c),
         Answer::Twisted(u) => write_twisted_line(alloc, into, top, b"", u),
         Answer::Division {
@@ -96,6 +118,11 @@ fn write_over(
         Answer::NoneConstant(c) => {
             write_element_line(alloc, into, top, b"no quotient: constant ", *c)
         }
+        Answer::Iso(Some(c)) => write_element_line(alloc, into, top, b"isomorphic by ", *c),
+        Answer::Isogenous(Some(u)) => write_twisted_line(alloc, into, top, b"isogenous by ", u),
+        Answer::Members(list) => write_members(alloc, into, top, list.as_slice()),
+        Answer::Motive(list) => write_coordinates(alloc, into, top, list.as_slice()),
+        Answer::Relation(list) => write_relation(alloc, into, top.base(), list.as_slice()),
         _ => write_plain(into, answer),
     }
 }

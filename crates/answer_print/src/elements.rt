@@ -90,8 +90,8 @@ pub(crate) fn write_element(
 
 /// The elements of a top field.
 #[derive(Clone, Copy)]
-struct Elements<'f> {
-    top: &'f Tower,
+pub(crate) struct Elements<'f> {
+    pub(crate) top: &'f Tower,
 }
 
 impl<'f> Printer for Elements<'f> {

@@ -4,7 +4,9 @@
 mod answers;
 mod elements;
 mod lines;
+mod members;
 mod printer;
+mod relations;
 mod sums;
 mod terms;
 

@@ -1,22 +1,39 @@
 //! Lines of an answer: a label, a text and a line feed.
 ghost use Rattle.std.specs.Prelude.{◌≡◌, ◌++◌, [], codes, decimal, OnOk};
-ghost use Rattle.answer.specs.Elements.{element_text, twisted_text, module_text};
+ghost use Rattle.answer.specs.Elements.{element_text, polynomial_text, twisted_text, module_text};
 ghost use Rattle.answer.specs.Texts.{line, truth_text, with_cofactors};
 
-use super::elements::{write_element, write_module, write_twisted};
-use super::terms::write_number;
+use super::elements::{write_element, write_module, write_polynomial, write_twisted};
+use super::terms::write_labelled;
 use drinfeld_mod::Module;
-use field_tower::{TopElem, Tower};
+use field_tower::{BaseField, Code, TopElem, Tower};
+use fq_poly::Poly;
 use ore_poly::Ore;
 use ring_core::NoMemory;
 use std::alloc::Global;
 
 /// Appends a label, a number in decimal and a line feed.
-pub(crate) fn write_number_line(into: &mut Vec<u8>, label: &[u8], n: u32) -> Result<(), NoMemory>
+pub(crate) fn write_number_line(into: &mut Vec<u8>, label: &[u8], n: usize) -> Result<(), NoMemory>
     ensures { OnOk result (into.new.items ≡ into.old.items ++ line label.now (decimal n)) }
 {
-    into.extend_from_slice(label)?;
-    write_number(into, n as usize)?;
+    write_labelled(into, label, n)?;
+    into.extend_from_slice(b"\n")?;
+    Ok(())
+}
+
+/// Appends a label, a number, a second label, a second number and a line feed.
+pub(crate) fn write_numbers_line(
+    into: &mut Vec<u8>,
+    label: &[u8],
+    first: usize,
+    between: &[u8],
+    second: usize,
+) -> Result<(), NoMemory>
+    ensures { OnOk result (into.new.items
+        ≡ into.old.items ++ line label.now (decimal first ++ between.now ++ decimal second)) }
+{
+    write_labelled(into, label, first)?;
+    write_labelled(into, between, second)?;
     into.extend_from_slice(b"\n")?;
     Ok(())
 }
@@ -31,6 +48,20 @@ pub(crate) fn write_truth(into: &mut Vec<u8>, yes: bool) -> Result<(), NoMemory>
         b"no\n".as_slice()
     };
     into.extend_from_slice(text)?;
+    Ok(())
+}
+
+/// Appends a polynomial over a base and a line feed.
+pub(crate) fn write_polynomial_line(
+    alloc: Global,
+    into: &mut Vec<u8>,
+    base: &BaseField,
+    list: &Poly<Code>,
+) -> Result<(), NoMemory>
+    ensures { OnOk result (into.new.items ≡ into.old.items ++ line [] (polynomial_text base.now list.now)) }
+{
+    write_polynomial(alloc, into, base, list.as_slice())?;
+    into.extend_from_slice(b"\n")?;
     Ok(())
 }
 

@@ -14,6 +14,14 @@ pub(crate) fn write_number(into: &mut Vec<u8>, n: usize) -> Result<(), NoMemory>
     Ok(())
 }
 
+/// Appends a label and a number in decimal.
+pub(crate) fn write_labelled(into: &mut Vec<u8>, label: &[u8], n: usize) -> Result<(), NoMemory>
+    ensures { OnOk result (into.new.items ≡ into.old.items ++ (label.now ++ decimal n)) }
+{
+    into.extend_from_slice(label)?;
+    write_number(into, n)
+}
+
 /// Appends a power of the letter, which stands alone where the exponent is 1.
 fn write_power(into: &mut Vec<u8>, letter: &[u8], k: usize) -> Result<(), NoMemory>
     ensures { OnOk result (into.new.items ≡ into.old.items ++ power_text letter.now k) }
