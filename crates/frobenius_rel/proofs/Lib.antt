@@ -4,3 +4,4 @@ pub mod Relations
 pub mod PowerRows
 pub mod Scaled
 pub mod Products
+pub mod Exists

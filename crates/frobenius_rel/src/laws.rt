@@ -12,6 +12,12 @@ pub fn one_least_relation<K: FrobField>()
         IsModule r phi → IsLeastRelation r base f phi a → IsLeastRelation r base f phi b → a ≡ b }
 {}
 
+/// A module has a least relation.
+pub fn some_least_relation<K: FrobField>()
+    ensures { (k : K) (phi : List K.Elem) → let r = K.ops k in let base = K.Base.ops (K.base_of k) in let f = K.frob_ops k in
+        IsModule r phi → (a : List (List K.Base.Elem)) × IsLeastRelation r base f phi a }
+{}
+
 /// There is at most one power of the least relation with the degree of the rank, and none where the degree of the
 /// least relation doesn't divide the rank.
 pub fn one_rank_power<K: FrobField>()

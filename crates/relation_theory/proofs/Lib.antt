@@ -7,3 +7,5 @@ pub mod Least
 pub mod PolyEuclid
 pub mod PowerRelations
 pub mod Bases
+pub mod Content
+pub mod FirstDependence
