@@ -6,3 +6,4 @@ pub mod FlatRows
 pub mod HomRows
 pub mod FullList
 pub mod Square
+pub mod Exists
