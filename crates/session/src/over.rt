@@ -1,7 +1,8 @@
 ghost use Rattle.std.specs.Prelude.{◌≡◌, ◌≢◌, None, Some, true, false, option_map, IfOk, IfErr, OnOk, OnErr};
+ghost use Rattle.script_parse.specs.Version.{version_1};
+ghost use Rattle.script_parse.specs.Within.{IsWithin};
 ghost use Rattle.statement_operands.specs.Asked.{unknown_name, wrong_kind, name_taken};
 ghost use Rattle.statement_operands.specs.Demands.{demands};
-ghost use Rattle.statement_operands.specs.Fits.{DemandsFit};
 ghost use Rattle.statement_operands.specs.Names.{value_of};
 ghost use Rattle.statement_operands.specs.Resolved.{AreOperands};
 ghost use Rattle.statement_operands.specs.Seen.{seen};
@@ -65,7 +66,7 @@ pub(crate) fn answer_over(
     requires known { unknown_name names.old (demands form.now) ≡ false }
     requires kind { wrong_kind names.old (demands form.now) ≡ false }
     requires free { name_taken names.old (demands form.now) ≡ false }
-    requires fits { DemandsFit (demands form.now) }
+    requires within { IsWithin version_1 form.now }
     requires over { (demands form.now).field ≡ Need.ATop }
     ensures ok { IfOk result (λ a. (work_refusal t.now names.old form.now ≡ None) × Works t.now names.old form.now a
         × (names.new ≡ with_name (demands form.now).gives (named_value a) names.old)) }

@@ -1,3 +1,4 @@
+pub mod Fitting
 pub mod Given
 pub mod ListCount
 pub mod Lookup

@@ -1,5 +1,5 @@
 -- A list is a module where it is told to be one.
-use Rattle.std.proofs.Common.{◌≡◌, ◌&&◌, ◌≤◌, ◌∙◌, ap₂, nat_le, true, List, length, arith}
+use Rattle.std.proofs.Common.{◌≡◌, ◌&&◌, ◌≤◌, ap₂, nat_le, true, List, length, arith}
 use Rattle.std.proofs.lemmas.Bool.{leb-true, le-leb}
 use Rattle.ring_core.specs.Ring.{RingOps}
 use Rattle.ring_core.specs.Coeffs.{is_canonical}

@@ -1,5 +1,5 @@
 -- The value of a name is one of the field.
-use Rattle.std.proofs.Common.{◌≡◌, ℕ, Bool, true, false, Option, Some, None, List, [], ◌∷◌, ◌∙◌, nat_eq, refl, ap, sym, subst, if◌then◌else◌}
+use Rattle.std.proofs.Common.{◌≡◌, ℕ, Bool, true, false, Some, List, [], ◌∷◌, ◌∙◌, nat_eq, ap, sym, if◌then◌else◌}
 use Rattle.std.specs.Cmp.Lexicographic.{pointwise}
 use Rattle.residue_field.specs.Top.{Top}
 use Rattle.std.proofs.lemmas.Option.{none-some}

@@ -1,5 +1,5 @@
 -- Which demands of a statement the names don't meet.
-use Rattle.std.specs.Prelude.{ℕ, ◌||◌, not, Bool, true, false, Option, Some, None, is_some, List}
+use Rattle.std.specs.Prelude.{ℕ, ◌||◌, not, Bool, false, Option, Some, None, is_some, List}
 use Rattle.script_lang.specs.declared.ModArg.{ModArg}
 use Rattle.script_lang.specs.declared.ModArg.TheVariants as module_operand
 use Rattle.script_lang.specs.declared.Name.{Name}

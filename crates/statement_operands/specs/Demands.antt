@@ -4,7 +4,6 @@ use Rattle.std.specs.Prelude.{Option, Some, None, List}
 use Rattle.script_statement.specs.declared.Form.{Form}
 use Rattle.script_statement.specs.declared.Form.TheVariants as form
 use Rattle.script_lang.specs.declared.ModArg.{ModArg}
-use Rattle.script_lang.specs.declared.ModArg.TheVariants as module_operand
 use Rattle.script_lang.specs.declared.OreArg.{OreArg}
 use Rattle.script_lang.specs.declared.Name.{Name}
 use Rattle.script_lang.specs.declared.Sum.{Sum}

@@ -1,5 +1,5 @@
 -- Lists in the place of modules that are none.
-use Rattle.std.specs.Prelude.{◌||◌, ◌≤◌, Bool, true, false, Option, Some, None, List, length, ⊤}
+use Rattle.std.specs.Prelude.{◌||◌, Bool, false, List}
 use Rattle.residue_field.specs.Top.{Top, ops_of_top}
 use Rattle.drinfeld_mod.specs.Make.{has_no_rank}
 use Rattle.script_lang.specs.declared.ModArg.{ModArg}

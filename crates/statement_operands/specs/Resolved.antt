@@ -1,5 +1,5 @@
 -- The values of the operands of a form.
-use Rattle.std.specs.Prelude.{◌≡◌, ℕ, Option, Some, None, option_map, List, true, IfSome}
+use Rattle.std.specs.Prelude.{◌≡◌, ℕ, option_map, List, true, IfSome}
 use Rattle.ring_core.specs.Coeffs.{is_canonical}
 use Rattle.residue_field.specs.Top.{Top, ops_of_top}
 use Rattle.drinfeld_mod.specs.Module.{IsModule}

@@ -1,5 +1,5 @@
 -- The values of operands.
-use Rattle.std.specs.Prelude.{ℕ, Option, Some, None, List, []}
+use Rattle.std.specs.Prelude.{ℕ, Option, Some, List, []}
 use Rattle.ring_core.specs.Coeffs.{trim}
 use Rattle.residue_field.specs.declared.TopElem.{TopElem}
 use Rattle.residue_field.specs.Top.{Top, ops_of_top}

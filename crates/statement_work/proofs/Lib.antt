@@ -1,9 +1,14 @@
 pub mod DivisionsExist
+pub mod FewMembers
 pub mod HeightTold
 pub mod InvariantsExist
+pub mod ListsExist
+pub mod ListsOnce
+pub mod MotiveTold
 pub mod MultiplesExist
 pub mod OneAnswer
 pub mod QuotientsDecided
 pub mod RanksFirst
 pub mod Refused
-pub mod SomeAnswer
+pub mod RelationsExist
+pub mod RelationsOnce

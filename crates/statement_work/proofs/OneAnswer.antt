@@ -26,6 +26,8 @@ use Rattle.statement_operands.specs.Names.{value_of}
 use Rattle.statement_operands.specs.Resolved.{AreOperands}
 use Rattle.statement_operands.specs.Values.{module_value, twisted_value}
 use Rattle.statement_work.specs.Works.{IsTruth, IsShown, IsDivided, IsCommonOf, IsMultipleOf, IsQuotientOf, Works}
+use Rattle.statement_work.proofs.ListsOnce.{one_members, one_bounded, one_full, one_count, one_isomorphism, one_isogeny}
+use Rattle.statement_work.proofs.RelationsOnce.{one_motive, one_relation, one_power}
 
 same_truth : (x y : Bool) → (IsTrue x → IsTrue y) → (IsTrue y → IsTrue x) → x ≡ y
 same_truth true y h g = sym (h refl)
@@ -135,4 +137,13 @@ module _ (t : Top) where
   one_work ns (form.Multiple u v) a b o h g = one_multiple (twisted_value t ns u) (twisted_value t ns v) a b o.u o.v h g
   one_work ns (form.Check m n u) a b o h g = one_truth a b _ h g
   one_work ns (form.Quotient m u name) a b o h g = one_quotient_answer (module_value t ns m) (twisted_value t ns u) o.phi o.u a b h g
+  one_work ns (form.Iso m n) a b o h g = one_isomorphism t (module_value t ns m) (module_value t ns n) o.phi o.psi a b h g
+  one_work ns (form.Isogenous m n) a b o h g = one_isogeny t (module_value t ns m) (module_value t ns n) o.phi o.psi a b h g
+  one_work ns (form.Bounded m n d) a b o h g = one_members a b _ (one_bounded t (module_value t ns m) (module_value t ns n) o.phi o.psi d) h g
+  one_work ns (form.Full m n) a b o h g = one_members a b _ (one_full t (module_value t ns m) (module_value t ns n) o.phi o.psi) h g
+  one_work ns (form.Fullsize m n) a b o h g = one_count t (module_value t ns m) (module_value t ns n) o.phi o.psi a b h g
+  one_work ns (form.Motive m u) a b o h g =
+      h.1 ∙ ap (λ x. answer.Motive x) (one_motive t (module_value t ns m) o.phi (twisted_value t ns u) h.0 g.0 o.u h.2 g.2) ∙ sym g.1
+  one_work ns (form.Frob m) a b o h g = h.1 ∙ ap (λ x. answer.Relation x) (one_relation t (module_value t ns m) o.phi h.0 g.0 h.2 g.2) ∙ sym g.1
+  one_work ns (form.Frobpower m) a b o h g = one_power t (module_value t ns m) o.phi a b h g
   one_work ns f a b o h g = absurd h

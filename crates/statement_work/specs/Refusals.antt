@@ -8,7 +8,7 @@ use Rattle.residue_field.specs.Top.{Top, ops_of_top}
 use Rattle.drinfeld_mod.specs.Module.{constant_of, rank_of}
 use Rattle.script_statement.specs.declared.Form.{Form}
 use Rattle.script_statement.specs.declared.Form.TheVariants as form
-use Rattle.script_lang.specs.declared.ModArg.{ModArg}
+use Rattle.script_parse.specs.Version.{version_1}
 use Rattle.script_parse.specs.declared.SizeKind.TheVariants as size
 use Rattle.answer.specs.declared.Value.{Value}
 use Rattle.statement_operands.specs.declared.MeaningKind.{MeaningKind}
@@ -27,9 +27,9 @@ abbrev pub is_nil : {A : Type 0} → List A → Bool
 is_nil [] = true
 is_nil (x ∷ xs) = false
 
--- The degrees of two twisted polynomials that aren't zero add to more than 128.
+-- The degrees of two twisted polynomials that aren't zero add to more than the limit of degrees.
 abbrev pub is_too_large : List TopElem → List TopElem → Bool
-is_too_large u v = not (is_nil u) && not (is_nil v) && nat_lt 130 (length u + length v)
+is_too_large u v = not (is_nil u) && not (is_nil v) && nat_lt (version_1.degree + 2) (length u + length v)
 
 abbrev pub size_refusal : Top → List (List ℕ × Value) → Form → Option Stop
 size_refusal t ns (form.Mul u v name) = when (is_too_large (twisted_value t ns u) (twisted_value t ns v)) (stop.Size size.Degree)

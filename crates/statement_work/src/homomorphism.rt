@@ -2,7 +2,7 @@
 ghost use Rattle.std.specs.Prelude.{◌≡◌, ◌≢◌, ◌↔◌, IsTrue, true, false, not, IfOk, IfErr};
 ghost use Rattle.ring_core.specs.Coeffs.{is_canonical};
 ghost use Rattle.residue_field.specs.Top.{ops_of_top, frob_of_top};
-ghost use Rattle.drinfeld_mod.specs.Module.{IsModule};
+ghost use Rattle.drinfeld_mod.specs.Module.{IsModule, constant_of};
 ghost use Rattle.morphism.specs.Homomorphism.{IsHomomorphism};
 ghost use Rattle.statement_work.specs.Refusals.{constants_differ};
 ghost use Rattle.statement_work.specs.Results.{gives_value};
@@ -22,7 +22,8 @@ use std::alloc::Global;
 pub(crate) fn have_one_constant<K: Field>(field: &K, phi: &Module<E<K>>, psi: &Module<E<K>>) -> bool
     requires source { IsModule (K.ops field.now) phi.now }
     requires target { IsModule (K.ops field.now) psi.now }
-    ensures { not result ≡ constants_differ (K.ops field.now) phi.now psi.now }
+    ensures told { not result ≡ constants_differ (K.ops field.now) phi.now psi.now }
+    ensures equal { result ≡ true → constant_of (K.ops field.now) phi.now ≡ constant_of (K.ops field.now) psi.now }
 {
     let source = coeff_at(field, phi.as_slice(), 0);
     let target = coeff_at(field, psi.as_slice(), 0);

@@ -3,9 +3,11 @@
 
 mod copies;
 mod division;
+mod frobenius;
 mod homomorphism;
 mod invariants;
 pub mod laws;
+mod lists;
 mod modules;
 mod names;
 mod sums;

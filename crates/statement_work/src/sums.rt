@@ -9,12 +9,9 @@ use answer::Answer;
 use field_tower::{TopElem, Tower};
 use ore_poly::{Ore, OreRing};
 use ring_core::{NoMemory, Ring};
-use script_parse::SizeKind;
+use script_parse::{Limits, SizeKind};
 use statement_operands::Stop;
 use std::alloc::Global;
-
-/// The greatest degree of a product.
-const MOST_DEGREE: usize = 128;
 
 /// The sum of two twisted polynomials.
 pub(crate) fn add(
@@ -49,7 +46,7 @@ pub(crate) fn sub(
 }
 
 /// The product of two twisted polynomials. It is too large where the degrees of two that aren't zero
-/// add to more than 128.
+/// add to more than the limit of degrees.
 pub(crate) fn mul(
     alloc: Global,
     t: &Tower,
@@ -73,11 +70,12 @@ pub(crate) fn mul(
 fn is_too_large(u: &Ore<TopElem>, v: &Ore<TopElem>) -> bool
     ensures { result ≡ is_too_large u.now v.now }
 {
+    let most = Limits::version_1().degree;
     match u.degree() {
         None => false,
         Some(m) => match v.degree() {
             None => false,
-            Some(n) => m > MOST_DEGREE || n > MOST_DEGREE - m,
+            Some(n) => m > most || n > most - m,
         },
     }
 }

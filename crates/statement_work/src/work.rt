@@ -1,7 +1,8 @@
 ghost use Rattle.std.specs.Prelude.{◌≡◌, ◌≢◌, None, Some, option_map, true, false, IfOk, IfErr};
+ghost use Rattle.script_parse.specs.Version.{version_1};
+ghost use Rattle.script_parse.specs.Within.{IsWithin};
 ghost use Rattle.statement_operands.specs.Asked.{unknown_name, wrong_kind};
 ghost use Rattle.statement_operands.specs.Demands.{demands};
-ghost use Rattle.statement_operands.specs.Fits.{DemandsFit};
 ghost use Rattle.statement_operands.specs.Ranks.{unranked_operands};
 ghost use Rattle.statement_operands.specs.Resolved.{held, AreOperands, AreResolved};
 ghost use Rattle.statement_operands.specs.Seen.{seen};
@@ -11,8 +12,10 @@ ghost use Rattle.statement_work.specs.Results.{gives_value};
 ghost use Rattle.statement_work.specs.Works.{Works};
 
 use super::division::{common, ldiv, multiple, rdiv};
+use super::frobenius::{frob, frobpower, motive};
 use super::homomorphism::check;
 use super::invariants::{characteristic, height, j, ordinary, rank, supersingular};
+use super::lists::{bounded, full, fullsize, iso, isogenous};
 use super::modules::{image, module, quotient};
 use super::names::{ore, show};
 use super::sums::{add, mul, sub};
@@ -43,7 +46,7 @@ fn work(
     o: &Operands<'_>,
 ) -> Result<Answer, Stop>
     requires known { unknown_name names.now (demands form.now) ≡ false }
-    requires fits { DemandsFit (demands form.now) }
+    requires within { IsWithin version_1 form.now }
     requires resolved { AreResolved t.now names.now (demands form.now) o.now }
     requires ranked { unranked_operands t.now (demands form.now) ≡ false }
     requires over { (demands form.now).field ≡ Need.ATop }
@@ -71,6 +74,14 @@ fn work(
         Form::Multiple { .. } => Ok(multiple(alloc, t, given(&o.u), given(&o.v))?),
         Form::Check { .. } => check(alloc, t, given(&o.phi), given(&o.psi), given(&o.u)),
         Form::Quotient { .. } => Ok(quotient(alloc, t, given(&o.phi), given(&o.u))?),
+        Form::Iso { .. } => iso(alloc, t, given(&o.phi), given(&o.psi)),
+        Form::Isogenous { .. } => isogenous(alloc, t, given(&o.phi), given(&o.psi)),
+        Form::Bounded { d, .. } => bounded(alloc, t, given(&o.phi), given(&o.psi), *d),
+        Form::Full { .. } => full(alloc, t, given(&o.phi), given(&o.psi)),
+        Form::Fullsize { .. } => fullsize(alloc, t, given(&o.phi), given(&o.psi)),
+        Form::Motive { .. } => Ok(motive(alloc, t, given(&o.phi), given(&o.u))?),
+        Form::Frob { .. } => Ok(frob(alloc, t, given(&o.phi))?),
+        Form::Frobpower { .. } => Ok(frobpower(alloc, t, given(&o.phi))?),
         _ => unreachable!(),
     }
 }
@@ -87,7 +98,7 @@ pub fn answer_of(
     requires sound { AreValues t.now names.now }
     requires known { unknown_name names.now (demands form.now) ≡ false }
     requires kind { wrong_kind names.now (demands form.now) ≡ false }
-    requires fits { DemandsFit (demands form.now) }
+    requires within { IsWithin version_1 form.now }
     requires over { (demands form.now).field ≡ Need.ATop }
     ensures ok { IfOk result (λ a. (work_refusal t.now names.now form.now ≡ None) × Works t.now names.now form.now a) }
     ensures operands { IfOk result (λ a. AreOperands t.now names.now (demands form.now)) }

@@ -1,4 +1,4 @@
-use Rattle.std.proofs.Common.{◌≡◌, ◌<◌, length, ap, ◌∙◌, arith}
+use Rattle.std.proofs.Common.{◌<◌, length, ap, ◌∙◌, arith}
 use Rattle.statement_operands.proofs.ListCount.{values_count}
 use Rattle.statement_operands.proofs.operands.listed_module.Goals as goal
 

@@ -1,4 +1,4 @@
-use Rattle.std.proofs.Common.{◌*◌, ◌^◌, ◌≤◌, sym, ap, subst, one-mul, ◌∙◌}
+use Rattle.std.proofs.Common.{◌*◌, ◌≤◌, sym, ap, subst, one-mul, ◌∙◌}
 use Rattle.std.proofs.Math.Nat.{pow-zero, pow-suc}
 use Rattle.ring_core.specs.Powers.{power_of}
 use Rattle.residue_field.specs.Base.{size_of}

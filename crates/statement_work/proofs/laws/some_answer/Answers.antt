@@ -1,5 +1,0 @@
-use Rattle.statement_work.proofs.SomeAnswer.{some_work}
-use Rattle.statement_work.proofs.laws.some_answer.Goals as goal
-
-pub returns : goal.returns
-returns c = λ t ns f o built over known free. some_work t ns f o built over known free
