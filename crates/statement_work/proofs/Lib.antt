@@ -12,3 +12,4 @@ pub mod RanksFirst
 pub mod Refused
 pub mod RelationsExist
 pub mod RelationsOnce
+pub mod SomeAnswer

@@ -1,6 +1,6 @@
--- Isomorphisms and isogenies of two modules over a top field, or that there are none, from their lists of
--- homomorphisms.
-use Rattle.std.proofs.Common.{◌≡◌, ◌<◌, ◌≤◌, Some, None, List, length, refl, ◌∙◌, ap, ⊎_elim, arith}
+-- The lists of homomorphisms of two modules over a top field exist; isomorphisms and isogenies, or that there
+-- are none, from these lists.
+use Rattle.std.proofs.Common.{◌≡◌, ℕ, ◌<◌, ◌≤◌, Some, None, List, length, refl, ◌∙◌, ap, ⊎_elim, arith}
 use Rattle.std.proofs.lemmas.Bool.{cases_lt}
 use Rattle.ring_core.specs.Ring.{RingOps}
 use Rattle.ring_core.specs.Field.{FrobOps}
@@ -13,6 +13,8 @@ use Rattle.residue_field.specs.Top.{Top, ops_of_top, inverse_of_top, frob_of_top
 use Rattle.residue_field.proofs.BaseLaws.{base_field}
 use Rattle.residue_field.proofs.TopLaws.{top_field}
 use Rattle.residue_field.proofs.TopFrob.{top_frob_field}
+use Rattle.drinfeld_mod.specs.Module.{IsModule}
+use Rattle.hom_space.proofs.Exists.{bounded_exists, full_exists}
 use Rattle.hom_space.specs.Full.{at_degree_power, IsFullList}
 use Rattle.isomorphism.specs.Isogeny.{HasNoIsogeny}
 use Rattle.isomorphism.proofs.Constants.{none as no_isomorphism, first as first_isomorphism}
@@ -26,6 +28,17 @@ no_isogeny : {E B : Type 0} (r : RingOps E) (base : RingOps B) (f : FrobOps E B)
 no_isogeny r base f phi psi list p empty u nonzero h =
     let s = p.spans u h in
     nonzero (s.is ∙ ap (λ n. sum_below (twisted_ops r f.frob) n (λ i. list_mul r f.frob (at_degree_power r base f (row_at s.by i)) (row_at list i))) empty)
+
+module _ (t : Top) (phi psi : List TopElem) (source : IsModule (ops_of_top t) phi) (target : IsModule (ops_of_top t) psi) where
+  pub some_bounded : (d : ℕ) → (list : List (List TopElem)) × IsItsBoundedList t phi psi d list
+  some_bounded d =
+      bounded_exists (ops_of_top t) (inverse_of_top t) (ops_of t.base) (inverse_of t.base) (frob_of_top t) (top_field t) (base_field t.base) (top_frob_field t)
+      phi psi source.canonical target.canonical d
+
+  pub some_full : (list : List (List TopElem)) × IsItsFullList t phi psi list
+  some_full =
+      full_exists (ops_of_top t) (inverse_of_top t) (ops_of t.base) (inverse_of t.base) (frob_of_top t) (top_field t) (base_field t.base) (top_frob_field t)
+      phi psi source.canonical target.canonical
 
 module _ (t : Top) (phi psi : List TopElem) (list : List (List TopElem)) where
   pub isomorphism_of : IsItsBoundedList t phi psi 0 list → (a : Answer) × IsIsomorphismOf t phi psi a

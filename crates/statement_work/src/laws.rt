@@ -17,3 +17,9 @@ use statement_operands::Need;
 pub fn one_answer()
     ensures { (t : Top) (ns : List (List ℕ × Value)) (f : Form) (a b : Answer) → AreOperands t ns (demands f) → Works t ns f a → Works t ns f b → a ≡ b }
 {}
+
+/// A form over a top field, whose operands have values and which nothing refuses, has an answer.
+pub fn some_answer()
+    ensures { (t : Top) (ns : List (List ℕ × Value)) (f : Form) → AreOperands t ns (demands f) → (demands f).field ≡ Need.ATop
+        → unknown_name ns (demands f) ≡ false → own_refusal t ns f ≡ None → (a : Answer) × Works t ns f a }
+{}
