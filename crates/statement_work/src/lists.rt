@@ -84,10 +84,9 @@ pub(crate) fn fullsize(
         return Err(Stop::Meaning(MeaningKind::OtherConstant));
     }
     let list = hom_space::full(alloc, t, phi, psi)?;
-    Ok(Answer::Count {
-        members: list.len() as u32,
-        degree: greatest_degree(&list),
-    })
+    let members = list.len() as u32;
+    let degree = greatest_degree(&list);
+    Ok(Answer::Count { members, degree })
 }
 
 /// The greatest of the degrees of some twisted polynomials, None where there are none or all are zero.
