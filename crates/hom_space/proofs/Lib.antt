@@ -7,3 +7,5 @@ pub mod HomRows
 pub mod FullList
 pub mod Square
 pub mod Exists
+pub mod ShiftRows
+pub mod Shifts

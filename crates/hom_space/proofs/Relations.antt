@@ -93,7 +93,7 @@ module _ {E B : Type 0} (r : RingOps E) (inv : E → Option E) (base : RingOps B
       high : (j : ℕ) → (d + 1) * f.degree ≤ j → d + 1 ≤ j / f.degree
       high j past = let some = l.degree_pos in (le-div_iff_mul-le (omega (arith, some))).1 past
 
-  short_past : (u : T) → ((j : ℕ) → w ≤ j → C j u ≡ N.zero) → length u.0 ≤ d + 1
+  pub short_past : (u : T) → ((j : ℕ) → w ≤ j → C j u ≡ N.zero) → length u.0 ≤ d + 1
   short_past u past =
       let few : length u.0 < d + 1 + 1 =
       length_below r k.ring u.0 (d + 1 + 1) (omega arith) (and_parts (are_elems r u.0) _ u.1).1
@@ -107,18 +107,9 @@ module _ {E B : Type 0} (r : RingOps E) (inv : E → Option E) (base : RingOps B
       ∙ sym (ap (f.coord r.zero) (sym (mod-mul-add i f.degree j low)) ∙ ap (λ x. x.0) (system.zero (i * f.degree + j))))) in
       omega arith
 
-  module _ (rows basis : List (List B)) (list : List (List E)) (sys : IsSystem rows) (ech : IsEchelonBasis base w (IsRelation base rows) basis) (reads : AreReadRows r base f basis list) where
-    inside : (i : ℕ) → i < length list → i < length basis
-    inside i m = omega (arith, reads.count, m)
-
-    row_in : (i : ℕ) → i < length list → is_row base w (row_at basis i) ≡ true
-    row_in i m = rows_at base w basis ech.shape i (inside i m)
-
-    member : (i : ℕ) → i < length list → T
-    member i m = (row_at list i, (reads.each i m).canonical)
-
+  module _ (rows : List (List B)) (sys : IsSystem rows) where
     -- a relation, as the coordinates of an element
-    relation_of : (u : T) → length u.0 ≤ d + 1 → L u ≡ S.zero → (x : List B) → ((j : ℕ) → j < w → coeff base x j ≡ (C j u).0) → IsRelation base rows x
+    pub relation_of : (u : T) → length u.0 ≤ d + 1 → L u ≡ S.zero → (x : List B) → ((j : ℕ) → j < w → coeff base x j ≡ (C j u).0) → IsRelation base rows x
     relation_of u short gone x same j =
         let whole : combination N S U C units system w (λ i. C i u) ≡ u = expanded N S U C units system w u (past_short u short) in
         let zero_at = kernel_relation N S U C units system L linear w (λ i. C i u) (ap L whole ∙ gone) j in
@@ -126,7 +117,7 @@ module _ {E B : Type 0} (r : RingOps E) (inv : E → Option E) (base : RingOps B
         ∙ sum_same base kb.ring w _ _ (λ i m. ap₂ base.mul (same i m) (sys.is i m j))
         ∙ sym (total_is base kb.ring w (λ i. N.mul (C i u) (C j (L (units i))))) ∙ ap (λ y. y.0) zero_at
 
-    kernel_of : (u : T) → length u.0 ≤ d + 1 → (x : List B) → ((j : ℕ) → j < w → coeff base x j ≡ (C j u).0) → IsRelation base rows x → L u ≡ S.zero
+    pub kernel_of : (u : T) → length u.0 ≤ d + 1 → (x : List B) → ((j : ℕ) → j < w → coeff base x j ≡ (C j u).0) → IsRelation base rows x → L u ≡ S.zero
     kernel_of u short x same relation =
         let whole : combination N S U C units system w (λ i. C i u) ≡ u = expanded N S U C units system w u (past_short u short) in
         sym (ap L whole)
@@ -136,6 +127,16 @@ module _ {E B : Type 0} (r : RingOps E) (inv : E → Option E) (base : RingOps B
         (total_is base kb.ring w (λ i. N.mul (C i u) (C j (L (units i))))
         ∙ sym (ap (λ n. sum_below base n (λ i. base.mul (coeff base x i) (entry base rows i j))) sys.count ∙ sum_same base kb.ring w _ _ (λ i m. ap₂ base.mul (same i m) (sys.is i m j)))
         ∙ relation j))
+
+  module _ (rows basis : List (List B)) (list : List (List E)) (sys : IsSystem rows) (ech : IsEchelonBasis base w (IsRelation base rows) basis) (reads : AreReadRows r base f basis list) where
+    inside : (i : ℕ) → i < length list → i < length basis
+    inside i m = omega (arith, reads.count, m)
+
+    row_in : (i : ℕ) → i < length list → is_row base w (row_at basis i) ≡ true
+    row_in i m = rows_at base w basis ech.shape i (inside i m)
+
+    member : (i : ℕ) → i < length list → T
+    member i m = (row_at list i, (reads.each i m).canonical)
 
     member_short : (i : ℕ) (m : i < length list) → length (row_at list i) ≤ d + 1
     member_short i m =
@@ -159,7 +160,7 @@ module _ {E B : Type 0} (r : RingOps E) (inv : E → Option E) (base : RingOps B
             commutes =
                 ap (λ x. x.0)
                 (minus_same S (S.mul u (phi, cp)) (S.mul (psi, cs) u)
-                (kernel_of u (member_short i m) (row_at basis i) (λ j t. sym ((reads.each i m).coords j)) (member_relation i m)));
+                (kernel_of rows sys u (member_short i m) (row_at basis i) (λ j t. sym ((reads.each i m).coords j)) (member_relation i m)));
           };
           short = member_short i m;
         }
@@ -238,7 +239,7 @@ module _ {E B : Type 0} (r : RingOps E) (inv : E → Option E) (base : RingOps B
         let same : (j : ℕ) → j < w → coeff base x j ≡ (C j U0).0 = λ j m. at-first_values w (coordinate r f u) j base.zero m in
         let hom : S.mul U0 (phi, cp) ≡ S.mul (psi, cs) U0 = same_element (twisted_ops r f.frob) (S.mul U0 (phi, cp)) (S.mul (psi, cs) U0) p.hom.commutes in
         let gone : L U0 ≡ S.zero = ap (λ a. minus S a (S.mul (psi, cs) U0)) hom ∙ S.add_neg (S.mul (psi, cs) U0) in
-        let relation = relation_of U0 p.short gone x same in
+        let relation = relation_of rows sys U0 p.short gone x same in
         let s : IsCombination base basis x = (ech.spans x shape).0 relation in
         let by = first_values (length list) s.by in
         let eb : are_elems base by ≡ true = elems-first_values base (length list) s.by (λ i m. s.elems i) in

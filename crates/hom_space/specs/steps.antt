@@ -1,3 +1,4 @@
 -- What private functions do.
 pub mod System
 pub mod Reading
+pub mod Shifts
