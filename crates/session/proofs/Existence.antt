@@ -28,7 +28,7 @@ use Rattle.statement_operands.specs.declared.Stop.{Stop}
 use Rattle.statement_operands.specs.declared.Stop.TheVariants as stop
 use Rattle.statement_operands.specs.Asked.{unknown_name, wrong_kind}
 use Rattle.statement_operands.specs.Demands.{demands}
-use Rattle.statement_work.specs.Built.{is_built}
+use Rattle.statement_operands.proofs.Fitting.{demands_fit}
 use Rattle.statement_work.specs.Refusals.{when}
 use Rattle.statement_work.specs.Results.{named_value}
 use Rattle.statement_work.proofs.Refused.{none_left, none_right}
@@ -42,7 +42,7 @@ use Rattle.session.proofs.Decided.{pair_or_none}
 use Rattle.session.proofs.Granted.{granted}
 use Rattle.session.proofs.Monic.{told_monic}
 use Rattle.session.proofs.Operands.{work_free, form_operands}
-use Rattle.session.proofs.Stepping.{needs_top, demands_fit}
+use Rattle.session.proofs.Stepping.{needs_top}
 
 passed_test : (b : Bool) (x : Stop) → when (not b) x ≡ None → b ≡ true
 passed_test true x h = refl
@@ -103,34 +103,34 @@ top_outcome k n m positive fits free =
 abbrev Rest : FieldState → List (List ℕ × Value) → Form → Type 0
 Rest k ns f = ((c : Stop) × IsReducible k f c) ⊎ ((a : Answer) × ((next : State) × GivesOver (top_of k) (record { field = k; names = ns }) f a next))
 
-nothing_rest : (ns : List (List ℕ × Value)) (f : Form) → is_built f ≡ true → IsWithin version_1 f → field_refusal (demands f).field field.Nothing ≡ None
+nothing_rest : (ns : List (List ℕ × Value)) (f : Form) → IsWithin version_1 f → field_refusal (demands f).field field.Nothing ≡ None
     → modulus_refusal field.Nothing f ≡ None → Rest field.Nothing ns f
-nothing_rest ns (form.Base p s m) built within asked free =
+nothing_rest ns (form.Base p s m) within asked free =
     elim (base_outcome p s m (sym (listed_primes p) ∙ within.0) within.1 free) [
       | inl pair ↦ inl (stop.Meaning meaning.BaseReducible, (refl, pair))
       | inr sets ↦ inr (sets.0, (record { field = sets.1.0; names = ns }, (sets.1.0, sets.1.1, refl)))
     ]
-nothing_rest ns (form.Over n m) built within asked free = absurd (none-some _ (sym asked))
-nothing_rest ns f built within asked free = absurd (none-some meaning.FieldMissing (sym asked))
+nothing_rest ns (form.Over n m) within asked free = absurd (none-some _ (sym asked))
+nothing_rest ns f within asked free = absurd (none-some meaning.FieldMissing (sym asked))
 
-base_rest : (k : Base) (ns : List (List ℕ × Value)) (f : Form) → is_built f ≡ true → IsWithin version_1 f → field_refusal (demands f).field (field.Base k) ≡ None
+base_rest : (k : Base) (ns : List (List ℕ × Value)) (f : Form) → IsWithin version_1 f → field_refusal (demands f).field (field.Base k) ≡ None
     → modulus_refusal (field.Base k) f ≡ None → Rest (field.Base k) ns f
-base_rest k ns (form.Base p s m) built within asked free = absurd (none-some _ (sym asked))
-base_rest k ns (form.Over n m) built within asked free =
+base_rest k ns (form.Base p s m) within asked free = absurd (none-some _ (sym asked))
+base_rest k ns (form.Over n m) within asked free =
     elim (top_outcome k n m within.0 within.1 free) [
       | inl pair ↦ inl (stop.Meaning meaning.TopReducible, (refl, pair))
       | inr sets ↦ inr (sets.0, (record { field = sets.1.0; names = ns }, (sets.1.0, sets.1.1, refl)))
     ]
-base_rest k ns f built within asked free = absurd (none-some meaning.FieldMissing (sym asked))
+base_rest k ns f within asked free = absurd (none-some meaning.FieldMissing (sym asked))
 
-rest : (k : FieldState) (ns : List (List ℕ × Value)) (f : Form) → is_built f ≡ true → IsWithin version_1 f → field_refusal (demands f).field k ≡ None
+rest : (k : FieldState) (ns : List (List ℕ × Value)) (f : Form) → IsWithin version_1 f → field_refusal (demands f).field k ≡ None
     → unknown_name ns (demands f) ≡ false → wrong_kind ns (demands f) ≡ false → is_sound k ns ≡ true → value_refusal k ns f ≡ None → Rest k ns f
-rest field.Nothing ns f built within asked known kind sound free = nothing_rest ns f built within asked free
-rest (field.Base k) ns f built within asked known kind sound free = base_rest k ns f built within asked free
-rest (field.Top t) ns f built within asked known kind sound free =
+rest field.Nothing ns f within asked known kind sound free = nothing_rest ns f within asked free
+rest (field.Base k) ns f within asked known kind sound free = base_rest k ns f within asked free
+rest (field.Top t) ns f within asked known kind sound free =
     let parts = work_free t ns f free in
     let operands = form_operands t ns sound (demands f) known kind (demands_fit f within) parts.0 in
-    let w = some_work t ns f operands built (needs_top _ t asked) known parts.1 in
+    let w = some_work t ns f operands (needs_top _ t asked) known parts.1 in
     inr (w.0, (record { field = field.Top t; names = with_name (demands f).gives (named_value w.0) ns }, (operands, w.1, refl)))
 
 unmapped : {A B : Type 0} (g : A → B) (o : Option A) → option_map g o ≡ None → o ≡ None
@@ -139,10 +139,8 @@ unmapped g (Some x) h = absurd (none-some (g x) (sym h))
 
 after_refusal : (st : State) (f : Form) → is_sound st.field st.names ≡ true → IsWithin version_1 f → refusal st f ≡ None → HasOutcome st f
 after_refusal st f sound within free =
-    let built : is_built f ≡ true = passed_test _ _ (none_left _ _ free) in
-    let later = none_right _ _ free in
-    let names = granted st (demands f) (unmapped (λ k. stop.Meaning k) _ (none_left _ _ later)) in
-    elim (rest st.field st.names f built within names.field names.known names.kind sound (none_right _ _ later)) [
+    let names = granted st (demands f) (unmapped (λ k. stop.Meaning k) _ (none_left _ _ free)) in
+    elim (rest st.field st.names f within names.field names.known names.kind sound (none_right _ _ free)) [
       | inl stops ↦ inl (stops.0, subst (λ o. StopsAfter o stops.0 (IsReducible st.field f stops.0)) (sym free) stops.1)
       | inr gives ↦ inr (gives.0, (gives.1.0, (free, gives.1.1)))
     ]

@@ -1,7 +1,7 @@
 -- What the tests of a polynomial tell, and when a base or a top is made of it.
-use Rattle.std.proofs.Common.{◌≡◌, ◌≢◌, ℕ, ◌+◌, ◌-◌, ◌<◌, ◌%◌, ◌==◌, ◌&&◌, not, nat_lt, Bool, true, false, Option, Some, None, List, [], ◌∷◌, length, map, slice_index, refl, sym, ap, ap₂, subst, ◌∙◌, arith, ltb-true, eq-eqb, eqb-true, mod-eq_of_lt}
+use Rattle.std.proofs.Common.{◌≡◌, ℕ, ◌+◌, ◌-◌, ◌%◌, not, Bool, true, false, Option, Some, None, List, [], ◌∷◌, length, slice_index, refl, sym, ap, ap₂, subst, ◌∙◌, ltb-true, eq-eqb, eqb-true, mod-eq_of_lt}
 use Rattle.std.proofs.lemmas.Bool.{and_parts, and_from, false_from_ne_true}
-use Rattle.ring_core.specs.Ring.{RingOps, IsElem, SameDecides, IsRing}
+use Rattle.ring_core.specs.Ring.{RingOps, IsRing}
 use Rattle.ring_core.specs.Coeffs.{coeff, are_elems}
 use Rattle.ring_core.proofs.Coefficients.{elem_read}
 use Rattle.residue_field.specs.declared.TopElem.{TopElem}

@@ -1,16 +1,12 @@
 -- What a statement does, from what its parts do.
-use Rattle.std.proofs.Common.{◌≡◌, ◌≢◌, ℕ, Bool, true, false, not, Option, Some, None, option_map, Result, Ok, Err, List, [], ◌∷◌, refl, sym, ap, ap₂, subst, ◌∙◌}
+use Rattle.std.proofs.Common.{◌≡◌, ◌≢◌, ℕ, Bool, true, false, Option, Some, None, option_map, Result, Ok, Err, List, [], ◌∷◌, refl, sym, ap, subst, ◌∙◌}
 use Rattle.std.specs.Prelude.{IfOk, IfErr, OnErr}
 use Rattle.std.specs.Option.{option_or}
 use Rattle.std.proofs.lemmas.Bool.{false≢true}
 use Rattle.std.proofs.lemmas.Option.{none-some}
 use Rattle.script_statement.specs.declared.Form.{Form}
 use Rattle.script_statement.specs.declared.Form.TheVariants as form
-use Rattle.script_lang.specs.declared.ModArg.{ModArg}
-use Rattle.script_lang.specs.declared.ModArg.TheVariants as module_operand
 use Rattle.script_lang.specs.declared.Sum.{Sum}
-use Rattle.script_parse.specs.Version.{version_1}
-use Rattle.script_parse.specs.Within.{IsWithin, ModuleWithin}
 use Rattle.answer.specs.declared.Answer.{Answer}
 use Rattle.answer.specs.declared.FieldState.{FieldState}
 use Rattle.answer.specs.declared.FieldState.TheVariants as field
@@ -22,10 +18,8 @@ use Rattle.residue_field.specs.Top.{Top}
 use Rattle.statement_operands.specs.declared.Stop.{Stop}
 use Rattle.statement_operands.specs.declared.Stop.TheVariants as stop
 use Rattle.statement_operands.specs.Demands.{demands}
-use Rattle.statement_operands.specs.Fits.{OperandFits, DemandsFit}
 use Rattle.statement_operands.specs.Resolved.{AreOperands}
-use Rattle.statement_work.specs.Built.{is_built}
-use Rattle.statement_work.specs.Refusals.{when, is_nil, work_refusal}
+use Rattle.statement_work.specs.Refusals.{is_nil, work_refusal}
 use Rattle.statement_work.specs.Results.{named_value}
 use Rattle.statement_work.specs.Works.{Works}
 use Rattle.session.specs.State.{State}
@@ -33,10 +27,9 @@ use Rattle.session.specs.Refusals.{field_refusal, name_refusal, modulus_refusal,
 use Rattle.session.specs.Sound.{sound_over, is_sound, IsBaseSet, OverBase}
 use Rattle.session.specs.Steps.{IsReducible, StopsAfter, Stops, SetsBase, SetsTop, SetsField, GivesOver, with_name, Does}
 
--- Where the names meet what a form that is answered asks, the values decide.
-pub refusal_is : (st : State) (f : Form) → is_built f ≡ true → name_refusal st (demands f) ≡ None → refusal st f ≡ value_refusal st.field st.names f
-refusal_is st f built free =
-    ap₂ (λ b n. option_or (when (not b) stop.NotBuilt) (option_or (option_map (λ k. stop.Meaning k) n) (value_refusal st.field st.names f))) built free
+-- Where the names meet what a form asks, the values decide.
+pub refusal_is : (st : State) (f : Form) → name_refusal st (demands f) ≡ None → refusal st f ≡ value_refusal st.field st.names f
+refusal_is st f free = ap (λ n. option_or (option_map (λ k. stop.Meaning k) n) (value_refusal st.field st.names f)) free
 
 -- Want of memory leaves the state, and every other stop has its cause.
 pub does_err : (st : State) (f : Form) (c : Stop) (next : State) → next ≡ st → (c ≢ stop.NoMemory → Stops st f c) → Does st f (Err c) next
@@ -56,11 +49,6 @@ does_err st f (stop.Size k) next same cause = (cause (λ e. absurd (size_apart k
 
     size_apart : (k : _) → stop.Size k ≡ stop.NoMemory → ⊥
     size_apart k e = false≢true (sym (ap is_size e))
-does_err st f stop.NotBuilt next same cause = (cause (λ e. absurd (false≢true (sym (ap is_not_built e)))), same)
-  where
-    is_not_built : Stop → Bool
-    is_not_built stop.NotBuilt = true
-    is_not_built c = false
 does_err st f stop.NoMemory next same cause = same
 
 pub stops_by : (st : State) (f : Form) (c : Stop) (rest : Type 0) (o : Option Stop) → refusal st f ≡ o → StopsAfter o c rest → StopsAfter (refusal st f) c rest
@@ -108,75 +96,38 @@ sound_set k m ns low sound = over_any m ns (subst (λ o. sound_over o ns ≡ tru
     over_any (field.Top t) [] e = refl
     over_any (field.Top t) (x ∷ xs) e = absurd (false≢true e)
 
-operand_fits : (m : ModArg) → ModuleWithin version_1 m → OperandFits m
-operand_fits (module_operand.List list) within = within
-operand_fits (module_operand.Name n) within = tt
-
--- The lists of a form that passes no limit fit.
-pub demands_fit : (f : Form) → IsWithin version_1 f → DemandsFit (demands f)
-demands_fit (form.Base p s modulus) within = record { phi_fits = tt; psi_fits = tt; list_fits = tt }
-demands_fit (form.Over n modulus) within = record { phi_fits = tt; psi_fits = tt; list_fits = tt }
-demands_fit (form.Module name list) within = record { phi_fits = tt; psi_fits = tt; list_fits = within }
-demands_fit (form.Ore name u) within = record { phi_fits = tt; psi_fits = tt; list_fits = tt }
-demands_fit (form.Show name) within = record { phi_fits = tt; psi_fits = tt; list_fits = tt }
-demands_fit (form.Rank m) within = record { phi_fits = operand_fits m within; psi_fits = tt; list_fits = tt }
-demands_fit (form.Char m) within = record { phi_fits = operand_fits m within; psi_fits = tt; list_fits = tt }
-demands_fit (form.Height m) within = record { phi_fits = operand_fits m within; psi_fits = tt; list_fits = tt }
-demands_fit (form.Ordinary m) within = record { phi_fits = operand_fits m within; psi_fits = tt; list_fits = tt }
-demands_fit (form.Supersingular m) within = record { phi_fits = operand_fits m within; psi_fits = tt; list_fits = tt }
-demands_fit (form.J m k) within = record { phi_fits = operand_fits m within; psi_fits = tt; list_fits = tt }
-demands_fit (form.Image m a name) within = record { phi_fits = operand_fits m within.0; psi_fits = tt; list_fits = tt }
-demands_fit (form.Add u v name) within = record { phi_fits = tt; psi_fits = tt; list_fits = tt }
-demands_fit (form.Sub u v name) within = record { phi_fits = tt; psi_fits = tt; list_fits = tt }
-demands_fit (form.Mul u v name) within = record { phi_fits = tt; psi_fits = tt; list_fits = tt }
-demands_fit (form.Rdiv u v) within = record { phi_fits = tt; psi_fits = tt; list_fits = tt }
-demands_fit (form.Ldiv u v) within = record { phi_fits = tt; psi_fits = tt; list_fits = tt }
-demands_fit (form.Common u v) within = record { phi_fits = tt; psi_fits = tt; list_fits = tt }
-demands_fit (form.Multiple u v) within = record { phi_fits = tt; psi_fits = tt; list_fits = tt }
-demands_fit (form.Check m n u) within = record { phi_fits = operand_fits m within.0; psi_fits = operand_fits n within.1; list_fits = tt }
-demands_fit (form.Quotient m u name) within = record { phi_fits = operand_fits m within.0; psi_fits = tt; list_fits = tt }
-demands_fit (form.Iso m n) within = record { phi_fits = operand_fits m within.0; psi_fits = operand_fits n within.1; list_fits = tt }
-demands_fit (form.Isogenous m n) within = record { phi_fits = operand_fits m within.0; psi_fits = operand_fits n within.1; list_fits = tt }
-demands_fit (form.Bounded m n d) within = record { phi_fits = operand_fits m within.0; psi_fits = operand_fits n within.1; list_fits = tt }
-demands_fit (form.Full m n) within = record { phi_fits = operand_fits m within.0; psi_fits = operand_fits n within.1; list_fits = tt }
-demands_fit (form.Fullsize m n) within = record { phi_fits = operand_fits m within.0; psi_fits = operand_fits n within.1; list_fits = tt }
-demands_fit (form.Motive m u) within = record { phi_fits = operand_fits m within.0; psi_fits = tt; list_fits = tt }
-demands_fit (form.Frob m) within = record { phi_fits = operand_fits m within; psi_fits = tt; list_fits = tt }
-demands_fit (form.Frobpower m) within = record { phi_fits = operand_fits m within; psi_fits = tt; list_fits = tt }
-
 value_low : (k : FieldState) (ns : List (List ℕ × Value)) (f : Form) → top_of k ≡ None → value_refusal k ns f ≡ modulus_refusal k f
 value_low k ns f low = ap (λ o. refusal_over o k ns f) low
 
 -- A form that sets a field does what its setting does.
-pub set_does : (st : State) (f : Form) (r : Result Answer Stop) (k : FieldState) → top_of st.field ≡ None → is_built f ≡ true → name_refusal st (demands f) ≡ None
+pub set_does : (st : State) (f : Form) (r : Result Answer Stop) (k : FieldState) → top_of st.field ≡ None → name_refusal st (demands f) ≡ None
     → IfOk r (λ a. modulus_refusal st.field f ≡ None) → IfOk r (λ a. SetsField st.field f a k) → OnErr r (k ≡ st.field)
     → IfErr r (λ c. c ≢ stop.NoMemory → StopsAfter (modulus_refusal st.field f) c (IsReducible st.field f c))
     → Does st f r (record { field = k; names = st.names })
-set_does st f (Ok a) k low built free none sets same stops =
-    let is = refusal_is st f built free ∙ value_low st.field st.names f low in
+set_does st f (Ok a) k low free none sets same stops =
+    let is = refusal_is st f free ∙ value_low st.field st.names f low in
     (is ∙ none, subst (λ o. GivesOver o st f a (record { field = k; names = st.names })) (sym low) (k, sets, refl))
-set_does st f (Err c) k low built free none sets same stops =
-    let is = refusal_is st f built free ∙ value_low st.field st.names f low in
+set_does st f (Err c) k low free none sets same stops =
+    let is = refusal_is st f free ∙ value_low st.field st.names f low in
     does_err st f c _ (ap (λ x. record { field = x; names = st.names }) same)
     (λ other. stops_by st f c (IsReducible st.field f c) (modulus_refusal st.field f) is (stops other))
 
 -- A form over the top field does what its work does.
-pub over_does : (st : State) (f : Form) (t : Top) (r : Result Answer Stop) (ns : List (List ℕ × Value)) → st.field ≡ field.Top t → is_built f ≡ true
-    → name_refusal st (demands f) ≡ None
+pub over_does : (st : State) (f : Form) (t : Top) (r : Result Answer Stop) (ns : List (List ℕ × Value)) → st.field ≡ field.Top t → name_refusal st (demands f) ≡ None
     → IfOk r (λ a. (work_refusal t st.names f ≡ None) × Works t st.names f a × (ns ≡ with_name (demands f).gives (named_value a) st.names))
     → IfOk r (λ a. AreOperands t st.names (demands f))
     → OnErr r (ns ≡ st.names)
     → IfErr r (λ c. c ≢ stop.NoMemory → work_refusal t st.names f ≡ Some c)
     → Does st f r (record { field = st.field; names = ns })
-over_does st f t (Ok a) ns is built free ok operands same stops =
+over_does st f t (Ok a) ns is free ok operands same stops =
     let top : top_of st.field ≡ Some t = ap top_of is in
-    let refuses = refusal_is st f built free ∙ ap (λ o. refusal_over o st.field st.names f) top in (
+    let refuses = refusal_is st f free ∙ ap (λ o. refusal_over o st.field st.names f) top in (
       refuses ∙ ok.0,
       subst (λ o. GivesOver o st f a (record { field = st.field; names = ns })) (sym top) (operands, ok.1, ap (λ x. record { field = st.field; names = x }) ok.2),
     )
-over_does st f t (Err c) ns is built free ok operands same stops =
+over_does st f t (Err c) ns is free ok operands same stops =
     let top : top_of st.field ≡ Some t = ap top_of is in
-    let refuses = refusal_is st f built free ∙ ap (λ o. refusal_over o st.field st.names f) top in
+    let refuses = refusal_is st f free ∙ ap (λ o. refusal_over o st.field st.names f) top in
     does_err st f c _ (ap (λ x. record { field = st.field; names = x }) same)
     (λ other. stops_by st f c (IsReducible st.field f c) (work_refusal t st.names f) refuses
     (subst (λ o. StopsAfter o c (IsReducible st.field f c)) (sym (stops other)) refl))

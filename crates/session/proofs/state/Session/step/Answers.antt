@@ -44,6 +44,5 @@ pub returns-in_default : goal.returns-in_default
 returns-in_default c =
     let st : State = record { field = c.args.self.now.field; names = c.args.self.now.names } in
     set_does st c.args.statement.now.form c.set_field.result c.set_field.new.field (no_top _ c.in_default.not-Top)
-    (sym c.is_built.ensures ∙ c.if-not-is_built.false)
     (sym (c.name_refusal.ensures ∙ ap (name_refusal st) c.asked_by-d.ensures) ∙ c.in-None.is)
     c.set_field.ensures.free c.set_field.ensures.ok c.set_field.ensures.same c.set_field.ensures.stop
