@@ -66,8 +66,6 @@ complete_stop t (status.Size which line) not_words (inr says) =
     ]) says.1
 complete_stop t (status.Meaning kind line) not_words says =
     if_some t.coming _ _ (λ bytes p. λ list c l is fits s read write. inl (stopped_so bytes list p.1.list c (stop.Meaning kind) l line _ _ is p.1.script s p.1.ended)) says.1
-complete_stop t (status.NotBuilt line) not_words says =
-    if_some t.coming _ _ (λ bytes p. λ list c l is fits s read write. inl (stopped_so bytes list p.1.list c stop.NotBuilt l line _ _ is p.1.script s p.1.ended)) says.1
 complete_stop t status.NoMemory not_words says = all_some t.coming _ (λ bytes. λ list c l is fits s read write. inr refl)
 complete_stop t status.ReadFault not_words says = all_some t.coming _ (λ bytes. λ list c l is fits s read write. absurd (read says.0))
 complete_stop t status.WriteFault not_words says =

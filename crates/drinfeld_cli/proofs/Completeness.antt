@@ -63,8 +63,6 @@ complete t (status.Size which line) not_words (inr says) =
     ])) says.1
 complete t (status.Meaning kind line) not_words says =
     if_some t.coming _ _ (λ bytes p. λ list is fits free read write. absurd (no_stop bytes list p.1.list _ line _ _ is p.1.script free p.1.ended)) says.1
-complete t (status.NotBuilt line) not_words says =
-    if_some t.coming _ _ (λ bytes p. λ list is fits free read write. absurd (no_stop bytes list p.1.list _ line _ _ is p.1.script free p.1.ended)) says.1
 complete t status.NoMemory not_words says = all_some t.coming _ (λ bytes. λ list is fits free read write. inr refl)
 complete t status.ReadFault not_words says = all_some t.coming _ (λ bytes. λ list is fits free read write. absurd (read says.0))
 complete t status.WriteFault not_words says =

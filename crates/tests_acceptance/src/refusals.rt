@@ -4,10 +4,9 @@
 use super::runs::check_rows;
 use std::test::Fail;
 
-/// Fields and names: not built, then the field, then unknown names, then names of the other kind, then names
-/// that are taken.
-const NAMES: &str = "frob nope =>  => 9 line 1: not built yet
-bounded nope nope 0 =>  => 9 line 1: not built yet
+/// Fields and names: the field, then unknown names, then names of the other kind, then names that are taken.
+const NAMES: &str = "frob nope =>  => 5 line 1: no field yet
+bounded nope nope 0 =>  => 5 line 1: no field yet
 rank nope =>  => 5 line 1: no field yet
 over 2 z =>  => 5 line 1: no field yet
 base 2;rank nope => q = 2 => 5 line 2: no field yet
@@ -53,15 +52,20 @@ base 2;over 1 z;module m = [1, 1];ldiv m 0 => q = 2;n = 1;m = [1, 1] => 5 line 4
 base 3;over 2 2*z^2 => q = 3 => 5 line 2: the modulus is not monic of the stated degree
 base 3 2 2*a^2 =>  => 5 line 1: the modulus is not monic of the stated degree";
 
-/// Each form that isn't built yet, with operands that would be refused.
-const NOT_BUILT: &str = "iso [1] [1] =>  => 9 line 1: not built yet
-isogenous [1] [1] =>  => 9 line 1: not built yet
-bounded [1] [1] 0 =>  => 9 line 1: not built yet
-full [1] [1] =>  => 9 line 1: not built yet
-fullsize [1] [1] =>  => 9 line 1: not built yet
-motive [1] 1 =>  => 9 line 1: not built yet
-frobpower [1] =>  => 9 line 1: not built yet
-base 2;over 2 z^2+z+1;frob [z, 1];rank [z, 1] => q = 2;n = 2 => 9 line 3: not built yet";
+/// Statements on homomorphisms, motive coordinates and Frobenius: lists that are no modules before constants that
+/// differ.
+const LISTS: &str = "base 2;over 2 z^2+z+1;iso [z] [z+1, 1] => q = 2;n = 2 => 5 line 3: not a module
+base 2;over 2 z^2+z+1;isogenous [z, 1] [z+1, 0] => q = 2;n = 2 => 5 line 3: not a module
+base 2;over 2 z^2+z+1;bounded [z, 0] nope 0 => q = 2;n = 2 => 5 line 3: unknown name
+base 2;over 2 z^2+z+1;motive [z] t => q = 2;n = 2 => 5 line 3: not a module
+base 2;over 2 z^2+z+1;frobpower [z, 0] => q = 2;n = 2 => 5 line 3: not a module
+base 2;over 2 z^2+z+1;ore u = t;frob u => q = 2;n = 2;u = t => 5 line 4: wrong kind of name
+base 2;over 2 z^2+z+1;module m = [z, 1];motive m m => q = 2;n = 2;m = [z, 1] => 5 line 4: wrong kind of name
+base 2;over 2 z^2+z+1;iso [z, 1] [z+1, 1] => q = 2;n = 2 => 5 line 3: the constants differ
+base 2;over 2 z^2+z+1;isogenous [z, 1] [z+1, 1] => q = 2;n = 2 => 5 line 3: the constants differ
+base 2;over 2 z^2+z+1;bounded [z, 1] [z+1, 1] 0 => q = 2;n = 2 => 5 line 3: the constants differ
+base 2;over 2 z^2+z+1;full [z, 1] [z+1, 1] => q = 2;n = 2 => 5 line 3: the constants differ
+base 2;over 2 z^2+z+1;fullsize [z, 1] [z+1, 1] => q = 2;n = 2 => 5 line 3: the constants differ";
 
 #[test]
 fn tells_names_in_order(rt: HostRuntime) -> Result<(), Fail> {
@@ -74,6 +78,6 @@ fn tells_work_in_order(rt: HostRuntime) -> Result<(), Fail> {
 }
 
 #[test]
-fn tells_what_is_not_built(rt: HostRuntime) -> Result<(), Fail> {
-    check_rows(&rt, rt.alloc(), NOT_BUILT)
+fn tells_lists_in_order(rt: HostRuntime) -> Result<(), Fail> {
+    check_rows(&rt, rt.alloc(), LISTS)
 }
