@@ -5,3 +5,4 @@ pub mod PowerRows
 pub mod Scaled
 pub mod Products
 pub mod Exists
+pub mod FrobeniusTimes

@@ -14,6 +14,7 @@ use Rattle.ring_core.specs.Monomial.{constant}
 use Rattle.ring_core.proofs.FirstValues.{length-first_values, at-first_values}
 use Rattle.ring_core.proofs.Twist.{no_twist}
 use Rattle.ring_core.proofs.Monomial.{monomial_in, constant_mul}
+use Rattle.ring_core.proofs.Degrees.{top_nonzero}
 use Rattle.relation_theory.proofs.Relations.{IsRel, rel_add, rel_scale}
 use Rattle.relation_theory.proofs.PolyEuclid.{poly_euclidean}
 use Rattle.relation_theory.proofs.Bases.{rel_less}
@@ -136,6 +137,16 @@ one_is : {B : Type 0} (base : RingOps B) (h : IsRing base) → base.one ≢ base
 one_is base h ne x e =
     ap (λ y. trim base (y ∷ [])) e
     ∙ ap (λ t. cond t [] (base.one ∷ [])) (false_from_ne_true _ (λ s. ne (h.equal.same_eq base.one base.zero h.closed.one_in h.closed.zero_in s)))
+
+-- the constant at the top of the first relation isn't zero
+pub first_top : {E B : Type 0} (r : RingOps E) (base : RingOps B) (binv : B → Option B) (f : FrobOps E B) (kb : IsField base binv) (phi : List E) (g : List (List B)) → IsFirstRelation r base f phi g
+    → coeff base (coeff (twisted_ops base (λ c i. c)) g (length g - 1)) 0 ≢ base.zero
+first_top {B = B} r base binv f kb phi g s e =
+    let p = twisted_ops base (λ c i. c) in
+    let top : List B = coeff p g (length g - 1) in
+    let one : length top ≡ 1 = s.top in
+    let place : length top - 1 ≡ 0 = omega (arith, one) in
+    top_nonzero base kb.ring.closed.zero_in kb.ring.equal top (and_parts _ _ (elem_read p g refl s.elems (length g - 1))).1 (λ z. let none : length top ≡ 0 = ap length z in omega (arith, one, none)) (ap (coeff base top) place ∙ e)
 
 module _ {E B : Type 0} (r : RingOps E) (inv : E → Option E) (base : RingOps B) (binv : B → Option B) (f : FrobOps E B)
     (k : IsField r inv) (kb : IsField base binv) (l : IsFrobField r base f)

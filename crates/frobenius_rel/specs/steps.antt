@@ -1,1 +1,2 @@
 pub mod FirstRelation
+pub mod FrobeniusRows

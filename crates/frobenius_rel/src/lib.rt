@@ -4,6 +4,7 @@
 
 mod fault;
 pub mod laws;
+mod matrix;
 mod power;
 mod relation;
 mod scale;

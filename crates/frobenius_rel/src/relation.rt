@@ -23,13 +23,12 @@ pub fn least_relation<K: FrobField>(
         (λ v. IsLeastRelation (K.ops field.now) (K.Base.ops (K.base_of field.now)) (K.frob_ops field.now) phi.now v.items) }
 {
     let width = phi.rank() * field.degree();
-    let Some(first) = first_relation(alloc, field, phi, width)? else {
-        return Err(NoMemory);
-    };
+    let first = first_relation(alloc, field, phi, width)?;
     let base = field.base();
     let top = top_constant(base, &first);
     let Some(inverse) = base.inv(top) else {
-        return Err(NoMemory);
+        // the last polynomial is a constant that isn't zero
+        unreachable!()
     };
     let list = scaled_polys(alloc, base, inverse, &first)?;
     Ok(list)

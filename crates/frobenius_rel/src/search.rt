@@ -1,14 +1,16 @@
-//! The first power of Frobenius that depends on the powers before it, through its coordinates.
-ghost use Rattle.std.specs.Prelude.{◌≡◌, ◌+◌, ◌*◌, ◌^◌, ◌<◌, ◌≤◌, IfOk, MatchOption, true, length};
+//! The first power of Frobenius that depends on the powers before it, through its coordinates. Those of each power
+//! come from those of the one before.
+ghost use Rattle.std.specs.Prelude.{◌≡◌, ◌+◌, ◌*◌, ◌^◌, ◌<◌, ◌≤◌, IfOk, true, length};
 ghost use Rattle.linear_algebra.specs.Linear.{row_at};
 ghost use Rattle.ring_core.specs.Coeffs.{is_canonical};
 ghost use Rattle.drinfeld_mod.specs.Module.{IsModule, rank_of};
 ghost use Rattle.frobenius_rel.specs.steps.FirstRelation.{IsFirstRelation};
 
+use super::matrix::{frobenius_rows, times_frobenius};
 use drinfeld_mod::Module;
 use flat_reduce::lists::copies;
 use fq_poly::Poly;
-use motive_coords::over_t;
+use motive_coords::{motive, motive_over_t};
 use ore_poly::OreRing;
 use poly_reduce::{PolyRows, kernel};
 use ring_core::{B, E, FrobField, NoMemory, Ring};
@@ -21,26 +23,27 @@ pub(super) fn first_relation<K: FrobField>(
     field: &K,
     phi: &Module<E<K>>,
     width: usize,
-) -> Result<Option<Vec<Poly<B<K>>>>, NoMemory>
+) -> Result<Vec<Poly<B<K>>>, NoMemory>
     requires module { IsModule (K.ops field.now) phi.now }
     requires width { width ≡ rank_of phi.now * (K.frob_ops field.now).degree }
     requires small { width + 1 < 2 ^ 64 }
     ensures { IfOk result
-        (λ o. MatchOption o ⊥
-        (λ v. IsFirstRelation (K.ops field.now) (K.Base.ops (K.base_of field.now)) (K.frob_ops field.now) phi.now v.items)) }
+        (λ v. IsFirstRelation (K.ops field.now) (K.Base.ops (K.base_of field.now)) (K.frob_ops field.now) phi.now v.items) }
 {
-    let ring = OreRing::new(field);
-    let mut power = ring.one(alloc)?;
+    let matrix = frobenius_rows(alloc, field, phi)?;
+    let one = OreRing::new(field).one(alloc)?;
+    let mut power = motive(alloc, field, phi, &one)?;
     let mut rows = PolyRows::new(alloc, width);
     for _ in 0..width + 1 {
-        let row = over_t(alloc, field, phi, &power)?;
+        let row = motive_over_t(alloc, field, phi, &power)?;
         rows.push(row)?;
         let basis = kernel(alloc, field.base(), &rows)?;
         if basis.len() > 0 {
             let first = copies(alloc, basis.as_slice()[0].as_slice())?;
-            return Ok(Some(first));
+            return Ok(first);
         }
-        power = ring.tau_shift(alloc, &power, field.degree())?;
+        power = times_frobenius(alloc, field, phi, &matrix, power)?;
     }
-    Ok(None)
+    // more rows than places can't be independent
+    unreachable!()
 }

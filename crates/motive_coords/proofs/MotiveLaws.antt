@@ -62,6 +62,11 @@ module _ {E B : Type 0} (r : RingOps E) (inv : E → Option E) (base : RingOps B
         ∙ sym (parts_past r inv base f k l (digit_of u j) i (omega (arith, short, m)))
   ]
 
+  pub motive_coeffs : (u : Element (twisted_ops r f.frob)) (list : List (List E)) (s : IsMotive r f.frob b.0 u.0 list) (i j : ℕ)
+      → coeffs r inv k (poly list s.elems i) j ≡ part (digits S (λ x. length x.0) (Digit r inv base f k l b d degree) b base_is u j) i
+  unfolding digit_of
+  motive_coeffs u list s i j = coeffs_are u list s i j
+
   pub motive_add : (u v : Element (twisted_ops r f.frob)) (x y z : List (List E)) → IsMotive r f.frob b.0 u.0 x → IsMotive r f.frob b.0 v.0 y → IsMotive r f.frob b.0 (S.add u v).0 z
       → (i : ℕ) → coeff (twisted_ops r (λ c i. c)) z i ≡ list_add r (coeff (twisted_ops r (λ c i. c)) x i) (coeff (twisted_ops r (λ c i. c)) y i)
   unfolding digit_of

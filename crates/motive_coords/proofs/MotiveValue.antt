@@ -69,6 +69,10 @@ module _ {E B : Type 0} (r : RingOps E) (inv : E → Option E) (base : RingOps B
   pub gathered : (n : ℕ) → (ℕ → Element r) → Element (twisted_ops r f.frob)
   gathered n c = total S n (λ i. single r inv base f k l (c i) i)
 
+  pub gathered_is : (n : ℕ) (c : ℕ → Element r) → gathered n c ≡ total S n (λ i. single r inv base f k l (c i) i)
+  unfolding gathered
+  gathered_is n c = refl
+
   pub gathered_part : (n : ℕ) (c : ℕ → Element r) (i : ℕ) → i < n → part (gathered n c) i ≡ c i
   unfolding gathered
   gathered_part n c i m =

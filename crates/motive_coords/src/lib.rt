@@ -8,4 +8,4 @@ pub mod laws;
 mod over_base;
 
 pub use coordinates::{motive, of_motive};
-pub use over_base::over_t;
+pub use over_base::{motive_over_t, over_t};

@@ -2,7 +2,7 @@
 ghost use Rattle.std.specs.Prelude.{◌≡◌, ◌*◌, ◌<◌, IfOk, length, true};
 ghost use Rattle.ring_core.specs.Coeffs.{coeff, are_elems, is_canonical, list_of};
 ghost use Rattle.fq_poly.specs.Poly.{poly_ops};
-ghost use Rattle.drinfeld_mod.specs.Module.{IsModule};
+ghost use Rattle.drinfeld_mod.specs.Module.{IsModule, rank_of};
 ghost use Rattle.motive_coords.specs.OverT.{IsOverT, base_parts};
 
 use super::coordinates::motive;
@@ -28,8 +28,26 @@ pub fn over_t<K: FrobField>(
         (λ v. IsOverT (K.ops field.now) (K.Base.ops (K.base_of field.now)) (K.frob_ops field.now) phi.now u.now v.items) }
 {
     let list = motive(alloc, field, phi, u)?;
+    let parts = motive_over_t(alloc, field, phi, &list)?;
+    Ok(parts)
+}
+
+/// The coordinates over the polynomials in T, from the motive coordinates `list`, which are as many polynomials as
+/// the rank.
+pub fn motive_over_t<K: FrobField>(
+    alloc: Global,
+    field: &K,
+    phi: &Module<E<K>>,
+    list: &[Poly<E<K>>],
+) -> Result<Vec<Poly<B<K>>>, NoMemory>
+    requires module { IsModule (K.ops field.now) phi.now }
+    requires count { length list.now ≡ rank_of phi.now }
+    requires elems { are_elems (poly_ops (K.ops field.now)) list.now ≡ true }
+    ensures { IfOk result
+        (λ v. v.items ≡ base_parts (K.ops field.now) (K.Base.ops (K.base_of field.now)) (K.frob_ops field.now) list.now) }
+{
     let n = field.degree();
-    let parts = all_parts(alloc, field, &list, n, phi.rank() * n)?;
+    let parts = all_parts(alloc, field, list, n, phi.rank() * n)?;
     Ok(parts)
 }
 

@@ -5,8 +5,22 @@ use Rattle.ring_core.specs.Twisted.{twisted_ops, list_mul}
 use Rattle.ring_core.specs.Monomial.{constant}
 use Rattle.frobenius_rel.specs.Relation.{IsLeastRelation}
 use Rattle.frobenius_rel.specs.steps.FirstRelation.{IsFirstRelation}
-use Rattle.frobenius_rel.proofs.Scaled.{scaled_done}
+use Rattle.frobenius_rel.proofs.Scaled.{first_top, scaled_done}
 use Rattle.frobenius_rel.proofs.relation.least_relation.Goals as goal
+
+pub unreachable-requires : goal.unreachable-requires
+unreachable-requires g c =
+    let field = c.args.field.now in
+    let lent = c.base-base.result.now in
+    let r = g.K.Field.ops field in
+    let f = g.K.FrobField.frob_ops field in
+    let t = g.K.Base.Field.ops lent in
+    let first = c.in_ok-first.first.items in
+    let phi = c.args.phi.now in
+    let top = c.top_constant-top.result in
+    let value = c.top_constant-top.ensures.value ∙ ap (λ v. coeff t (coeff (twisted_ops t (λ c i. c)) v (length v - 1)) 0) c.deref.ensures.value in
+    let zero = subst (λ o. MatchOption o (top ≡ t.zero) (λ b. IsElem t b × (t.mul top b ≡ t.one))) (sym c.inv.ensures.value ∙ c.in_default.is) ((g.met.K.Base.Field.laws lent).inv_is top c.top_constant-top.ensures.elem) in
+    first_top r t (g.K.Base.Field.inv_of lent) f (g.met.K.Base.Field.laws lent) phi first (subst (λ b. IsFirstRelation r (g.K.Base.Field.ops b) f phi first) (sym c.base-base.ensures) c.in_ok-first.ensures) (sym value ∙ zero)
 
 pub returns : goal.returns
 returns g c =
@@ -16,17 +30,16 @@ returns g c =
     let lent = c.base-base.result.now in
     let r = g.K.Field.ops field in
     let t = g.K.Base.Field.ops lent in
-    let inverse = c.in-Some-inv.inverse in
-    let first = c.in-Some.first.items in
+    let inverse = c.in-Some.inverse in
+    let first = c.in_ok-first.first.items in
     let phi = c.args.phi.now in
     let long : 2 ≤ length phi = let p = c.requires.rank_pos in omega (arith, p) in
-    let found : IsFirstRelation r (g.K.Base.Field.ops base) f phi first =
-    subst (λ o. MatchOption o ⊥ (λ v. IsFirstRelation r (g.K.Base.Field.ops base) f phi v.items)) c.in-Some.is c.in_ok-first.ensures in
+    let found = c.in_ok-first.ensures in
     let one = c.deref.ensures.value in
     let two = c.deref-2.ensures.value in
     let top = c.top_constant-top.result in
     let value = c.top_constant-top.ensures.value ∙ ap (λ v. coeff t (coeff (twisted_ops t (λ c i. c)) v (length v - 1)) 0) one in
-    let pair = subst (λ o. MatchOption o (top ≡ t.zero) (λ b. IsElem t b × (t.mul top b ≡ t.one))) (sym c.in-Some-inv.ensures.value) ((g.met.K.Base.Field.laws lent).inv_is top c.top_constant-top.ensures.elem) in
+    let pair = subst (λ o. MatchOption o (top ≡ t.zero) (λ b. IsElem t b × (t.mul top b ≡ t.one))) (sym c.in-Some.ensures.value) ((g.met.K.Base.Field.laws lent).inv_is top c.top_constant-top.ensures.elem) in
     let inverts = subst (λ b. IsElem (g.K.Base.Field.ops b) inverse × ((g.K.Base.Field.ops b).mul (coeff (g.K.Base.Field.ops b) (coeff (twisted_ops (g.K.Base.Field.ops b) (λ c i. c)) first (length first - 1)) 0) inverse ≡ (g.K.Base.Field.ops b).one)) c.base-base.ensures
     (pair.0, ap (λ x. t.mul x inverse) (sym value) ∙ pair.1) in
     let listed = c.in_ok-list.ensures

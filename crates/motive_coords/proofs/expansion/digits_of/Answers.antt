@@ -20,14 +20,14 @@ loop-alloc-smaller g c =
     let field = c.args.field.now in
     let some : 0 < length c.loop-alloc.rest = let e = c.len.ensures in let t = c.loop-alloc-test.true in omega (arith, e, t) in
     quotient_less (g.K.Field.ops field) (g.K.Field.inv_of field) (g.K.Base.Field.ops (g.K.FrobField.base_of field)) (g.K.FrobField.frob_ops field) (g.met.K.Field.laws field) (g.met.K.FrobField.frob_laws field)
-    c.args.letter.now c.requires.letter c.requires.long c.loop-alloc.rest c.in-Ok.division.quotient c.in-Ok.division.remainder c.loop-alloc.invariant.rest_in some c.in-Ok.ensures.division
+    c.args.letter.now c.requires.letter c.requires.long c.loop-alloc.rest c.in_ok-division.division.quotient c.in_ok-division.division.remainder c.loop-alloc.invariant.rest_in some c.in_ok-division.ensures
 
 pub loop-alloc-preserved : goal.loop-alloc-preserved
 loop-alloc-preserved g c =
     let field = c.args.field.now in
     part_more (g.K.Field.ops field) (g.K.Field.inv_of field) (g.K.Base.Field.ops (g.K.FrobField.base_of field)) (g.K.FrobField.frob_ops field) (g.met.K.Field.laws field) (g.met.K.FrobField.frob_laws field)
-    c.args.letter.now c.requires.letter c.requires.long c.args.u.now c.loop-alloc.rest c.in-Ok.division.quotient c.in-Ok.division.remainder c.loop-alloc.digits.items c.push.new.self.items
-    c.requires.elem c.loop-alloc.invariant c.in-Ok.ensures.division c.in_ok-push.ensures.items
+    c.args.letter.now c.requires.letter c.requires.long c.args.u.now c.loop-alloc.rest c.in_ok-division.division.quotient c.in_ok-division.division.remainder c.loop-alloc.digits.items c.push.new.self.items
+    c.requires.elem c.loop-alloc.invariant c.in_ok-division.ensures c.in_ok-push.ensures.items
 
 pub returns : goal.returns
 returns g c =

@@ -1,0 +1,270 @@
+-- Multiplication by the power of tau of the degree of the field, on motive coordinates: a product with the matrix
+-- of the coordinates of tau^n, .., tau^(n + r - 1).
+use Rattle.std.proofs.Common.{◌≡◌, ℕ, zero, suc, ◌+◌, ◌-◌, ◌<◌, ◌≤◌, inl, inr, Option, true, List, [], ◌∷◌, ◌++◌, length, refl, sym, ◌∙◌, ap, ap₂, arith, subst, ext_get_or, eq-eqb}
+use mathlib.Core.Path.{fun_ext}
+use Rattle.std.proofs.lemmas.Bool.{and_parts, and_from, cases_lt, cases_eq}
+use Rattle.std.proofs.lemmas.List.{get_or_append_left, get_or-append_right}
+use Rattle.ring_core.specs.Ring.{RingOps, IsElem}
+use Rattle.ring_core.specs.Field.{IsField, FrobOps, IsFrobField}
+use Rattle.ring_core.specs.Coeffs.{coeff, are_elems}
+use Rattle.ring_core.specs.Twisted.{twisted_ops, list_mul, product_at}
+use Rattle.ring_core.specs.Monomial.{monomial, constant, tau_power}
+use Rattle.ring_core.proofs.Carrier.{RingOn, Element, same_element, mul_zero}
+use Rattle.ring_core.proofs.Coefficients.{elem_read}
+use Rattle.ring_core.proofs.FirstValues.{length-first_values, at-first_values}
+use Rattle.ring_core.proofs.Series.{total}
+use Rattle.ring_core.proofs.Twist.{frob_twist}
+use Rattle.ring_core.proofs.ListRing.{poly_ring}
+use Rattle.ring_core.proofs.Monomial.{monomial_in, monomial_product, product_monomial, product_monomial_below, coeff-monomial_same, coeff-monomial_other, same_products}
+use Rattle.ring_core.proofs.Central.{tau_degree_central}
+use Rattle.linear_algebra.specs.Combines.{combined}
+use Rattle.linear_algebra.specs.Linear.{row_at, entry, is_row, are_rows}
+use Rattle.linear_algebra.proofs.RowLists.{rows_in}
+use Rattle.linear_algebra.proofs.Sums.{combine, total_left, total_right, total_same}
+use Rattle.finite_ring.proofs.Powers.{power}
+use Rattle.relation_theory.proofs.Gauss.{cauchy_product}
+use Rattle.relation_theory.proofs.Relations.{before}
+use Rattle.relation_theory.proofs.PolyEuclid.{scalars, polys, coeffs, coeffs_past, coeffs_add, coeffs_mul, poly_same}
+use Rattle.motive_coords.specs.Motive.{IsMotive}
+use Rattle.motive_coords.proofs.Digits.{IsBase, expanded_powers, digits, digits_in, digits_past, digits_add, digits_shift, digits_left, digits_expanded}
+use Rattle.motive_coords.proofs.Ores.{twisted, parts, parts_past, parts_add, single, scale_parts, scale_length, twisted_same, Digit, is_base}
+use Rattle.motive_coords.proofs.OverT.{moved_up, shifts_product}
+use Rattle.motive_coords.proofs.MotiveValue.{total_swap, gathered, gathered_is, gathered_part, gathered_past}
+use Rattle.motive_coords.proofs.MotiveLaws.{motive_coeffs, motive_exists}
+use Rattle.poly_reduce.specs.Matrices.{row_times}
+use Rattle.frobenius_rel.proofs.ListBases.{combined_is}
+
+-- the coordinates as a row
+pub motive_row : {E : Type 0} (r : RingOps E) (frob : E → ℕ → E) (phi u : List E) (x : List (List E)) → IsMotive r frob phi u x → is_row (twisted_ops r (λ c i. c)) (length phi - 1) x ≡ true
+motive_row r frob phi u x s = and_from _ _ (eq-eqb (length x) (length phi - 1) s.count) s.elems
+
+-- what holds of each row holds of one row more
+pub each_more : {X : Type 0} (P : ℕ → List X → Type 0) (n : ℕ) (rows more : List (List X)) (x : List X) → length rows ≡ n → more ≡ rows ++ x ∷ [] → ((j : ℕ) → j < n → P j (row_at rows j)) → P n x
+    → (j : ℕ) → j < n + 1 → P j (row_at more j)
+each_more P n rows more x count pushed each new j m = elim (cases_eq j n) [
+  | inl e ↦
+      let place : j - n ≡ 0 = omega (arith, e) in
+      subst (λ t. P j t) (sym (ap (λ t. row_at t j) pushed ∙ get_or-append_right rows (x ∷ []) n j [] count (omega (arith, e)) ∙ ap (row_at (x ∷ [])) place))
+      (subst (λ t. P t x) (sym e) new)
+  | inr ne ↦
+      subst (λ t. P j t) (sym (ap (λ t. row_at t j) pushed ∙ get_or_append_left rows (x ∷ []) [] j (omega (arith, m, ne, count))))
+      (each j (omega (arith, m, ne)))
+]
+
+module _ {E B : Type 0} (r : RingOps E) (inv : E → Option E) (base : RingOps B) (f : FrobOps E B) (k : IsField r inv) (l : IsFrobField r base f) where
+  abbrev S : RingOn (Element (twisted_ops r f.frob))
+  S = twisted r inv base f k l
+
+  abbrev K : RingOn (Element r)
+  K = scalars r inv k
+
+  abbrev P : RingOn (Element (twisted_ops r (λ c i. c)))
+  P = polys r inv k
+
+  abbrev part : Element (twisted_ops r f.frob) → ℕ → Element r
+  part = parts r inv base f k l
+
+  -- The power of tau.
+  abbrev tau : ℕ → Element (twisted_ops r f.frob)
+  tau m = (tau_power r m, monomial_in r k.ring r.one m k.ring.closed.one_in)
+
+  pub tau_is : (m : ℕ) → list_mul r f.frob (tau_power r m) (r.one ∷ []) ≡ tau_power r m
+  tau_is m = ap (λ (t : Element (twisted_ops r f.frob)). t.0) (S.mul_one (tau m))
+
+  elems_of : (c : Element r) (m : ℕ) → are_elems r (monomial r c.0 m) ≡ true
+  elems_of c m = (and_parts _ _ (monomial_in r k.ring c.0 m c.1)).0
+
+  -- the coefficients of c tau^i tau^n and of c tau^(n + i)
+  term_coeff : (c : Element r) (i n j : ℕ) → product_at r f.frob (monomial r c.0 i) (tau_power r n) j ≡ product_at r f.frob (constant r c.0) (tau_power r (n + i)) j
+  term_coeff c i n j =
+      let ring = k.ring in
+      let one = ring.closed.one_in in
+      let twist = frob_twist r inv base f k l in
+      let read : (m e : ℕ) → IsElem r (coeff r (tau_power r m) e) = λ m. elem_read r (tau_power r m) ring.closed.zero_in (elems_of (r.one, one) m) in
+      let place : j - 0 ≡ j = omega arith in
+      let right : product_at r f.frob (constant r c.0) (tau_power r (n + i)) j ≡ r.mul c.0 (coeff r (tau_power r (n + i)) j) =
+      monomial_product r ring f.frob twist c.0 0 (tau_power r (n + i)) c.1 (elems_of (r.one, one) (n + i)) j (omega arith)
+      ∙ ap (r.mul c.0) (l.frob_zero _ (read (n + i) (j - 0)) ∙ ap (coeff r (tau_power r (n + i))) place) in
+      left ∙ sym right
+    where
+      zero_times : r.mul c.0 r.zero ≡ r.zero
+      zero_times = ap (λ (t : Element r). t.0) (mul_zero K c)
+
+      left : product_at r f.frob (monomial r c.0 i) (tau_power r n) j ≡ r.mul c.0 (coeff r (tau_power r (n + i)) j)
+      left = elim (cases_lt j n) [
+        | inl low ↦
+            product_monomial_below r k.ring f.frob (frob_twist r inv base f k l) (monomial r c.0 i) r.one n k.ring.closed.one_in (elems_of c i) j low
+            ∙ sym (ap (r.mul c.0) (coeff-monomial_other r k.ring r.one (n + i) j k.ring.closed.one_in (λ e. omega (arith, e, low))) ∙ zero_times)
+        | inr high ↦
+            product_monomial r k.ring f.frob (frob_twist r inv base f k l) (monomial r c.0 i) r.one n k.ring.closed.one_in (elems_of c i) j high
+            ∙ ap (r.mul (coeff r (monomial r c.0 i) (j - n))) ((frob_twist r inv base f k l).twist_one (j - n))
+            ∙ k.ring.mul_one _ (elem_read r (monomial r c.0 i) k.ring.closed.zero_in (elems_of c i) (j - n))
+            ∙ (elim (cases_eq j (n + i)) [
+              | inl e ↦
+                  let here : j - n ≡ i = omega (arith, e) in
+                  ap (coeff r (monomial r c.0 i)) here ∙ coeff-monomial_same r k.ring c.0 i c.1
+                  ∙ sym (ap (λ t. r.mul c.0 (coeff r (tau_power r (n + i)) t)) e ∙ ap (r.mul c.0) (coeff-monomial_same r k.ring r.one (n + i) k.ring.closed.one_in) ∙ k.ring.mul_one c.0 c.1)
+              | inr ne ↦
+                  coeff-monomial_other r k.ring c.0 i (j - n) c.1 (λ e. ne (omega (arith, e, high)))
+                  ∙ sym (ap (r.mul c.0) (coeff-monomial_other r k.ring r.one (n + i) j k.ring.closed.one_in ne) ∙ zero_times)
+            ])
+      ]
+
+  -- tau^n (c tau^i) = c tau^(n + i) for the degree n of the field
+  times_term : (c : Element r) (i : ℕ) → S.mul (tau f.degree) (single r inv base f k l c i) ≡ S.mul (single r inv base f k l c 0) (tau (f.degree + i))
+  times_term c i =
+      let n = f.degree in
+      same_element (twisted_ops r f.frob) _ _
+      (tau_degree_central r inv base f k l (monomial r c.0 i) (elems_of c i)
+      ∙ same_products r k.ring f.frob (frob_twist r inv base f k l) (monomial r c.0 i) (tau_power r n) (constant r c.0) (tau_power r (n + i))
+      (elems_of c i) (elems_of (r.one, k.ring.closed.one_in) n) (elems_of c 0) (elems_of (r.one, k.ring.closed.one_in) (n + i)) (term_coeff c i n))
+
+  -- a twisted polynomial of at most `d` coefficients is the sum of its terms
+  spread : (d : ℕ) (v : Element (twisted_ops r f.frob)) → length v.0 ≤ d → v ≡ total S d (λ i. single r inv base f k l (part v i) i)
+  spread d v short =
+      twisted_same r inv base f k l v (gathered r inv base f k l d (part v)) (λ i. elim (cases_lt i d) [
+        | inl m ↦ sym (gathered_part r inv base f k l d (part v) i m)
+        | inr m ↦ parts_past r inv base f k l v i (omega (arith, short, m)) ∙ sym (gathered_past r inv base f k l d (part v) i m)
+      ])
+      ∙ gathered_is r inv base f k l d (part v)
+
+  coeffs_total : (n : ℕ) (g : ℕ → Element (twisted_ops r (λ c i. c))) (e : ℕ) → coeffs r inv k (total P n g) e ≡ total K n (λ i. coeffs r inv k (g i) e)
+  coeffs_total zero g e = coeffs_past r inv k P.zero e (omega arith)
+  coeffs_total (suc n) g e = coeffs_add r inv k (total P n g) (g n) e ∙ ap (λ t. K.add t (coeffs r inv k (g n) e)) (coeffs_total n g e)
+
+  module _ (b : Element (twisted_ops r f.frob)) (d : ℕ) (degree : length b.0 ≡ suc d) (pos : 1 ≤ d) where
+    abbrev p : RingOps (List E)
+    p = twisted_ops r (λ c i. c)
+
+    abbrev base_is : IsBase S (λ x. length x.0) (Digit r inv base f k l b d degree) b
+    base_is = is_base r inv base f k l b d degree pos
+
+    digit : Element (twisted_ops r f.frob) → ℕ → Element (twisted_ops r f.frob)
+    digit u e = digits S (λ x. length x.0) (Digit r inv base f k l b d degree) b base_is u e
+
+    -- The coefficient at `e` of motive coordinate `q`.
+    at : Element (twisted_ops r f.frob) → ℕ → ℕ → Element r
+    at u q e = part (digit u e) q
+
+    at_past : (u : Element (twisted_ops r f.frob)) (q e : ℕ) → length u.0 ≤ e → at u q e ≡ K.zero
+    unfolding at digit
+    at_past u q e m =
+        ap (λ t. part t q) (digits_past S (λ x. length x.0) (Digit r inv base f k l b d degree) b base_is u e m)
+        ∙ parts_past r inv base f k l S.zero q (omega arith)
+
+    at_add : (u v : Element (twisted_ops r f.frob)) (q e : ℕ) → at (S.add u v) q e ≡ K.add (at u q e) (at v q e)
+    unfolding at digit
+    at_add u v q e =
+        ap (λ t. part t q) (digits_add S (λ x. length x.0) (Digit r inv base f k l b d degree) b base_is u v e) ∙ parts_add r inv base f k l (digit u e) (digit v e) q
+
+    at_scale : (c : Element r) (u : Element (twisted_ops r f.frob)) (q e : ℕ) → at (S.mul (single r inv base f k l c 0) u) q e ≡ K.mul c (at u q e)
+    unfolding at digit
+    at_scale c u q e =
+        ap (λ t. part t q)
+        (digits_left S (λ x. length x.0) (Digit r inv base f k l b d degree) b base_is (single r inv base f k l c 0) u (λ x s. scale_length r inv base f k l c x d s) e)
+        ∙ scale_parts r inv base f k l c (digit u e) q
+
+    at_shift : (u : Element (twisted_ops r f.frob)) (q e : ℕ) → at (S.mul u b) q e ≡ before K.zero (at u q) e
+    unfolding at digit
+    at_shift u q zero =
+        ap (λ t. part t q) (digits_shift S (λ x. length x.0) (Digit r inv base f k l b d degree) b base_is u 0) ∙ parts_past r inv base f k l S.zero q (omega arith)
+    at_shift u q (suc e) = ap (λ t. part t q) (digits_shift S (λ x. length x.0) (Digit r inv base f k l b d degree) b base_is u (suc e))
+
+    at_power : (u : Element (twisted_ops r f.frob)) (q i e : ℕ) → at (S.mul u (power S b i)) q e ≡ moved_up K i (at u q) e
+    at_power u q zero e = ap (λ t. at t q e) (S.mul_one u)
+    at_power u q (suc i) e =
+        ap (λ t. at t q e) (sym (S.mul_assoc u (power S b i) b)) ∙ at_shift (S.mul u (power S b i)) q e
+        ∙ ap (λ t. before K.zero t e) (fun_ext (at_power u q i))
+
+    at_total : (q e n : ℕ) (g : ℕ → Element (twisted_ops r f.frob)) → at (total S n g) q e ≡ total K n (λ i. at (g i) q e)
+    at_total q e zero g = at_past S.zero q e (omega arith)
+    at_total q e (suc n) g = at_add (total S n g) (g n) q e ∙ ap (λ t. K.add t (at (g n) q e)) (at_total q e n g)
+
+    -- tau^n times a digit
+    times_digit : (v : Element (twisted_ops r f.frob)) → length v.0 ≤ d → S.mul (tau f.degree) v ≡ total S d (λ i. S.mul (single r inv base f k l (part v i) 0) (tau (f.degree + i)))
+    times_digit v short =
+        ap (S.mul (tau f.degree)) (spread d v short) ∙ sym (total_left S d (tau f.degree) (λ i. single r inv base f k l (part v i) i))
+        ∙ total_same S d _ _ (λ i _. times_term (part v i) i)
+
+    -- one digit's part of the coordinates
+    digit_at : (u : Element (twisted_ops r f.frob)) (j q e : ℕ) → at (S.mul (tau f.degree) (S.mul (digit u j) (power S b j))) q e ≡ total K d (λ i. K.mul (at u i j) (moved_up K j (at (tau (f.degree + i)) q) e))
+    unfolding at digit
+    digit_at u j q e =
+        let v = digit u j in
+        let short : length v.0 ≤ d = digits_in S (λ x. length x.0) (Digit r inv base f k l b d degree) b base_is u j in
+        ap (λ t. at t q e)
+        (sym (S.mul_assoc (tau f.degree) v (power S b j)) ∙ ap (λ t. S.mul t (power S b j)) (times_digit v short)
+        ∙ sym (total_right S d (power S b j) (λ i. S.mul (single r inv base f k l (part v i) 0) (tau (f.degree + i))))
+        ∙ total_same S d _ (λ i. S.mul (single r inv base f k l (part v i) 0) (S.mul (tau (f.degree + i)) (power S b j))) (λ i _. S.mul_assoc (single r inv base f k l (part v i) 0) (tau (f.degree + i)) (power S b j)))
+        ∙ at_total q e d (λ i. S.mul (single r inv base f k l (part v i) 0) (S.mul (tau (f.degree + i)) (power S b j)))
+        ∙ total_same K d _ _ (λ i _.
+        at_scale (part v i) (S.mul (tau (f.degree + i)) (power S b j)) q e ∙ ap (K.mul (part v i)) (at_power (tau (f.degree + i)) q j e))
+
+    sum_of_digits : (u : Element (twisted_ops r f.frob)) → u ≡ total S (length u.0) (λ j. S.mul (digit u j) (power S b j))
+    unfolding digit
+    sum_of_digits u =
+        sym (expanded_powers S b (power S b) refl (λ j. refl) (length u.0) (digit u)
+        ∙ digits_expanded S (λ x. length x.0) (Digit r inv base f k l b d degree) b base_is u (length u.0) (omega arith))
+
+    -- the coordinates of tau^n u
+    times_at : (u : Element (twisted_ops r f.frob)) (q e : ℕ) → at (S.mul (tau f.degree) u) q e ≡ total K d (λ i. cauchy_product K (at u i) (at (tau (f.degree + i)) q) e)
+    times_at u q e =
+        let m = length u.0 in
+        ap (λ t. at (S.mul (tau f.degree) t) q e) (sum_of_digits u)
+        ∙ ap (λ t. at t q e) (sym (total_left S m (tau f.degree) (λ j. S.mul (digit u j) (power S b j))))
+        ∙ at_total q e m (λ j. S.mul (tau f.degree) (S.mul (digit u j) (power S b j)))
+        ∙ total_same K m _ _ (λ j _. digit_at u j q e)
+        ∙ sym (total_swap K d m (λ i j. K.mul (at u i j) (moved_up K j (at (tau (f.degree + i)) q) e)))
+        ∙ total_same K d _ _ (λ i _. shifts_product K m (at u i) (at (tau (f.degree + i)) q) (at_past u i) e)
+
+    module _ (u : Element (twisted_ops r f.frob)) (x : List (List E)) (s : IsMotive r f.frob b.0 u.0 x) (images : List (List (List E)))
+        (rows : length images ≡ d) (shape : are_rows (twisted_ops r (λ c i. c)) d images ≡ true) (each : (i : ℕ) → i < d → IsMotive r f.frob b.0 (tau_power r (f.degree + i)) (row_at images i)) where
+      -- Member `i` of the coordinates, and of row `i` at `q`, as polynomials.
+      member : ℕ → Element (twisted_ops r (λ c i. c))
+      member i = (coeff p x i, elem_read p x refl s.elems i)
+
+      member_coeffs : (i j : ℕ) → coeffs r inv k (member i) j ≡ at u i j
+      unfolding member at digit
+      member_coeffs i j = motive_coeffs r inv base f k l b d degree pos u x s i j
+
+      image : ℕ → ℕ → Element (twisted_ops r (λ c i. c))
+      image i q = (entry p images i q, rows_in p refl d images shape i q)
+
+      image_coeffs : (i q e : ℕ) → i < d → coeffs r inv k (image i q) e ≡ at (tau (f.degree + i)) q e
+      unfolding image at digit
+      image_coeffs i q e m =
+          same_element r _ _ refl ∙ motive_coeffs r inv base f k l b d degree pos (tau (f.degree + i)) (row_at images i) (each i m) q e
+
+      product_coeffs : (q e : ℕ) → coeffs r inv k (combine P d member image q) e ≡ at (S.mul (tau f.degree) u) q e
+      product_coeffs q e =
+          coeffs_total d (λ i. P.mul (member i) (image i q)) e
+          ∙ total_same K d _ _ (λ i m.
+          coeffs_mul r inv k (member i) (image i q) e
+          ∙ ap₂ (λ v w. cauchy_product K v w e) (fun_ext (member_coeffs i)) (fun_ext (λ c. image_coeffs i q c m)))
+          ∙ sym (times_at u q e)
+
+      list : List (List E)
+      list = row_times p d x images
+
+      list_at : (q : ℕ) → q < d → coeff p list q ≡ (combine P d member image q).0
+      unfolding list member image
+      list_at q m =
+          at-first_values d (combined p (length images) (coeff p x) (entry p images)) q [] m
+          ∙ ap (λ n. combined p n (coeff p x) (entry p images) q) rows
+          ∙ combined_is p (poly_ring r k.ring k.one_ne_zero) images image d (λ i _ j. refl) x member (λ i _. refl) q
+
+      same_list : (y : List (List E)) → IsMotive r f.frob b.0 (S.mul (tau f.degree) u).0 y → y ≡ list
+      unfolding list at digit
+      same_list y o =
+          let count : length y ≡ d = (let e = o.count in omega (arith, e, degree)) in
+          ext_get_or [] y (row_times p d x images) (count ∙ sym (length-first_values d (combined p (length images) (coeff p x) (entry p images)))) (λ q m.
+          ap (λ (w : Element (twisted_ops r (λ c i. c))). w.0) (poly_same r inv k (coeff p y q, elem_read p y refl o.elems q) (combine P d member image q) (λ e.
+          motive_coeffs r inv base f k l b d degree pos (S.mul (tau f.degree) u) y o q e ∙ sym (product_coeffs q e)))
+          ∙ sym (list_at q (omega (arith, m, count))))
+
+      -- The product with the matrix has the motive coordinates of tau^n u.
+      pub times_motive : IsMotive r f.frob b.0 (list_mul r f.frob (tau_power r f.degree) u.0) (row_times (twisted_ops r (λ c i. c)) d x images)
+      unfolding list
+      times_motive =
+          let found = motive_exists r inv base f k l b d degree pos (S.mul (tau f.degree) u) in
+          subst (IsMotive r f.frob b.0 (S.mul (tau f.degree) u).0) (same_list found.0 found.1) found.1
