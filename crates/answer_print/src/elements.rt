@@ -2,6 +2,7 @@
 ghost use Rattle.std.specs.Prelude.{◌≡◌, ◌<◌, ◌++◌, IfOk, OnOk};
 ghost use Rattle.ring_core.specs.Coeffs.{first_values};
 ghost use Rattle.residue_field.specs.Digits.{digit};
+ghost use Rattle.answer.specs.Sums.{tight};
 ghost use Rattle.answer.specs.Elements.{numbers, codes_of, code_text, elements_of, element_text, polynomial_text, twisted_text, module_text};
 
 use super::printer::Printer;
@@ -42,6 +43,18 @@ fn digits(alloc: Global, p: u32, n: u32, c: Code) -> Result<Vec<Code>, NoMemory>
     Ok(digits)
 }
 
+/// The sum in a letter whose coefficients are the `n` lowest digits of `c` in base `p`, from the highest power down and
+/// without spaces.
+pub fn digit_sum(alloc: Global, letter: &[u8], p: u32, n: u32, c: Code) -> Result<Vec<u8>, NoMemory>
+    requires { 0 < p }
+    ensures { IfOk result (λ v. v.items ≡ tight numbers letter.now (first_values n (digit p c))) }
+{
+    let digits = digits(alloc, p, n, c)?;
+    let mut text = Vec::new(alloc);
+    write_sum(alloc, &mut text, &Numbers, letter, b"+", true, &digits)?;
+    Ok(text)
+}
+
 /// Appends the text of an element of a base.
 #[tactic(auto, unfolding(answer::specs::Elements::code_text))]
 fn write_code(alloc: Global, into: &mut Vec<u8>, base: &BaseField, c: Code) -> Result<(), NoMemory>
@@ -50,8 +63,8 @@ fn write_code(alloc: Global, into: &mut Vec<u8>, base: &BaseField, c: Code) -> R
     if base.s() == 1 {
         return write_number(into, c as usize);
     }
-    let digits = digits(alloc, base.p(), base.s(), c)?;
-    write_sum(alloc, into, &Numbers, b"a", b"+", true, &digits)
+    into.extend_from_slice(&digit_sum(alloc, b"a", base.p(), base.s(), c)?)?;
+    Ok(())
 }
 
 /// The elements of a base.

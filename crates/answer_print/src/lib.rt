@@ -11,3 +11,4 @@ mod sums;
 mod terms;
 
 pub use answers::write_answer;
+pub use elements::digit_sum;

@@ -1,5 +1,6 @@
-pub mod Ran
-pub mod Once
-pub mod Completeness
 pub mod CompleteStop
+pub mod Completeness
 pub mod FaultLine
+pub mod Memory
+pub mod Once
+pub mod Ran

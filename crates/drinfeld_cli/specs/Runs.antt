@@ -1,5 +1,5 @@
 -- What the statements of a script do one after another, and what a status says of that.
-use Rattle.std.specs.Prelude.{◌≡◌, ℕ, zero, suc, Option, Some, List, [], ◌++◌, length, take, slice_get}
+use Rattle.std.specs.Prelude.{◌≡◌, ℕ, zero, suc, Bool, true, false, Option, Some, List, [], ◌++◌, length, take, codes, slice_get, slice_range}
 use Rattle.text_io.specs.Bytes.{with_back}
 use Rattle.script_parse.specs.declared.Statement.{Statement}
 use Rattle.answer.specs.declared.Answer.{Answer}
@@ -15,9 +15,15 @@ use Rattle.drinfeld_cli.specs.declared.status.Status.TheVariants.{Done, Size, Me
 abbrev pub Piece : Type 0
 Piece = State → Statement → Answer → State → List ℕ
 
--- The text of the answer alone, its elements read in the field after the statement.
-abbrev pub plain : Piece
-plain st s a next = text_of next.field a
+-- What stands before the text of an answer: nothing, or, where lines are echoed, the statement's line in the bytes
+-- of the script, without what ends it.
+abbrev pub echo_text : Bool → List ℕ → Statement → List ℕ
+echo_text false bytes s = []
+echo_text true bytes s = codes "> " ++ slice_range bytes s.start s.stop ++ codes "\n"
+
+-- The line, where it is echoed, and the text of the answer, its elements read in the field after the statement.
+abbrev pub piece_of : Bool → List ℕ → Piece
+piece_of echo bytes st s a next = echo_text echo bytes s ++ text_of next.field a
 
 -- A statement is answered with this text, and leaves this state.
 pub record IsAnswered (piece : Piece) (st : State) (s : Statement) (text : List ℕ) (next : State) : Type 0 where

@@ -5,5 +5,6 @@ mod fault_line;
 mod program;
 mod status;
 
-pub use program::run;
+pub use program::{run, run_bytes};
+pub use sample_script::sample;
 pub use status::Status;

@@ -10,7 +10,7 @@ use session::{MeaningKind, Stop};
 pub enum Status {
     /// The script was read to its end and every statement answered.
     Done,
-    /// There were words on the command line, and none is allowed.
+    /// The words on the command line aren't the command's.
     Words,
     /// The line is no statement.
     Syntax { line: u32 },

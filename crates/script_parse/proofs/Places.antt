@@ -1,6 +1,6 @@
 -- Where the lines of a script stand in its bytes.
-use Rattle.std.proofs.Common.{◌≡◌, ℕ, zero, suc, ◌+◌, ◌-◌, ◌≤◌, ◌==◌, if◌then◌else◌, Bool, true, false, Some, List, [], ◌∷◌, length, take, drop, slice_get, slice_index, refl, sym, ap, ◌∙◌, subst, arith}
-use Rattle.std.proofs.lemmas.List.{length-take-le, drop-drop}
+use Rattle.std.proofs.Common.{◌≡◌, ℕ, zero, suc, ◌+◌, ◌-◌, ◌<◌, ◌≤◌, ◌==◌, if◌then◌else◌, Bool, true, false, Some, List, [], ◌∷◌, length, take, drop, slice_get, slice_index, refl, sym, ap, ◌∙◌, subst, arith}
+use Rattle.std.proofs.lemmas.List.{length-take, length-take-le, length-drop, drop-drop}
 use Rattle.std.proofs.lemmas.List.Elements.{All-nil, All-cons}
 use Rattle.std.specs.List.{All}
 use Rattle.std.specs.Str.Lines.{strip_carriage_return}
@@ -87,12 +87,35 @@ next_lines bytes l ls at f =
     let e : at + length l + 1 ≡ at + suc (length l) = omega arith in
     ap (λ k. lines (drop k bytes)) e ∙ ap lines (sym (drop-drop (suc (length l)) at bytes)) ∙ f.goes_on
 
-statement_place : (bytes l : List ℕ) (ls : List (List ℕ)) (at m n : ℕ) (s : Statement) → Front (drop at bytes) l ls → drop m (lines bytes) ≡ l ∷ ls → n ≡ suc m → s.line ≡ n → s.start ≡ at
-    → s.stop ≡ at + length (strip_carriage_return l) → IsPlaceOf bytes s
-statement_place bytes l ls at m n s f e h a b c =
+strip_short : (b : Bool) (l : List ℕ) → length (if b then take (length l - 1) l else l) ≤ length l
+strip_short false l = omega arith
+strip_short true l =
+    let h : length l - 1 ≤ length l = omega arith in
+    let e = length-take-le (length l - 1) l h in
+    omega (arith, e)
+
+some_bytes : (bs l : List ℕ) (ls : List (List ℕ)) → lines bs ≡ l ∷ ls → 0 < length bs
+some_bytes [] l ls e = absurd cc
+some_bytes (b ∷ bs) l ls e = omega arith
+
+-- The places of a line are in order, and within the bytes.
+within_bytes : (bytes l : List ℕ) (at : ℕ) → 0 < length (drop at bytes) → take (length l) (drop at bytes) ≡ l → at + length (strip_carriage_return l) ≤ length bytes
+within_bytes bytes l at some begins =
+    let short = strip_short (slice_index l (length l - 1) == 13) l in
+    let front = length-take (length l) (drop at bytes) in
+    let same : length (take (length l) (drop at bytes)) ≡ length l = ap length begins in
+    let back = length-drop at bytes in
+    omega (arith, some, short, front, same, back)
+
+statement_place : (bytes l : List ℕ) (ls : List (List ℕ)) (at m n : ℕ) (s : Statement) → 0 < length (drop at bytes) → Front (drop at bytes) l ls → drop m (lines bytes) ≡ l ∷ ls → n ≡ suc m
+    → s.line ≡ n → s.start ≡ at → s.stop ≡ at + length (strip_carriage_return l) → IsPlaceOf bytes s
+statement_place bytes l ls at m n s some f e h a b c =
     let p : s.line - 1 ≡ m = omega (arith, h, a) in
     let q : s.stop - s.start ≡ length (strip_carriage_return l) = omega (arith, b, c) in
+    let w = within_bytes bytes l at some f.begins in
     record {
+      ordered = omega (arith, b, c);
+      inside = omega (arith, w, c);
       text = l;
       is_line = ap (slice_get (lines bytes)) p ∙ place_there (lines bytes) ls l m e;
       is_text = (λ i. take (q i) (drop (b i) bytes)) ∙ stripped (drop at bytes) l f.begins;
@@ -109,5 +132,5 @@ places lim {n} {at} (IsScript.statement_line {l = l} {ls = ls} {f = form} {list 
     let f = front (drop at bytes) l ls e in
     let i : n + 1 ≡ suc (suc m) = omega (arith, h) in
     let s = statement_of n at (at + length (strip_carriage_return l)) form in
-    All-cons (IsPlaceOf bytes) s list (statement_place bytes l ls at m n s f k h refl refl refl)
+    All-cons (IsPlaceOf bytes) s list (statement_place bytes l ls at m n s (some_bytes (drop at bytes) l ls e) f k h refl refl refl)
     (places lim y bytes (suc m) i (next_lines bytes l ls at f) (one_more (lines bytes) ls l m k))

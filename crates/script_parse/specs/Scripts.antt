@@ -1,5 +1,5 @@
 -- The script that lines are, and the first line at fault.
-use Rattle.std.specs.Prelude.{◌≡◌, ℕ, ◌+◌, ◌-◌, Bool, true, false, Some, List, [], ◌∷◌, length, slice_get, slice_range}
+use Rattle.std.specs.Prelude.{◌≡◌, ℕ, ◌+◌, ◌-◌, ◌≤◌, Bool, true, false, Some, List, [], ◌∷◌, length, slice_get, slice_range}
 use Rattle.std.specs.Str.Lines.{strip_carriage_return}
 use Rattle.script_statement.specs.declared.Form.{Form}
 use Rattle.script_parse.specs.declared.size.SizeKind.{SizeKind}
@@ -47,6 +47,8 @@ IsFaultOf bytes r = FirstFault version_1 1 0 0 (lines bytes) r
 -- The statement's places in the bytes are those of the line with its number: what stands from `start` on and
 -- before `stop` is that line without its carriage return.
 pub record IsPlaceOf (bytes : List ℕ) (s : Statement) : Type 0 where
+  pub ordered : s.start ≤ s.stop
+  pub inside : s.stop ≤ length bytes
   pub text : List ℕ
   pub is_line : slice_get (lines bytes) (s.line - 1) ≡ Some text
   pub is_text : slice_range bytes s.start s.stop ≡ strip_carriage_return text
