@@ -56,6 +56,18 @@ expect 'a stop' 5 $'q = 2\nn = 2\n' $'line 3: unknown name\n'
 run x <<<"$script"
 expect 'a word' 2 '' $'words refused\n'
 
+run --echo --echo <<<"$script"
+expect 'a flag twice' 2 '' $'words refused\n'
+
+run --echo < <(printf 'base 2 # two\r\n')
+expect 'an echoed line' 0 $'> base 2 # two\nq = 2\n' ''
+
+run --sample 0 <&-
+[[ $status -eq 0 && $(wc -l <"$folder/output") -eq 26 && $(sed -n 3p "$folder/output") == 'm1 = [z, z^5+z^4+z^3+z^2, z^6+z^2+z+1]' ]] || fail "the sample: status $status, wrote '$(<"$folder/output")'"
+cp "$folder/output" "$folder/sample"
+run --sample 0 <&-
+cmp -s "$folder/output" "$folder/sample" || fail 'the sample: another output at the second run'
+
 run $'\377' <<<"$script"
 expect 'a word that is no text' 10 '' ''
 
