@@ -94,7 +94,7 @@ fn write_counts(into: &mut Vec<u8>) -> Result<(), NoMemory>
 }
 
 /// The sample script of a number: a field of 256 elements, twelve modules of rank 2 whose coefficients are drawn from
-/// the number, and a count of the endomorphisms of each. It has 26 lines, fewer than 2,000 bytes, and passes no limit.
+/// the number, and a count of the endomorphisms of each. It has 26 lines, and fewer than 2,000 bytes.
 /// `NoMemory` where memory is refused.
 #[tactic(auto, unfolding(crate::specs::Sample::sample_text))]
 pub fn sample(alloc: Global, n: u32) -> Result<Vec<u8>, NoMemory>
