@@ -6,7 +6,7 @@ use std::process::Abort;
 use std::test::Fail;
 use text_io::{MemSink, Source};
 
-const SCRIPT: &[u8] = b"base 2\nover 2 z^2+z+1\ncheck [z, 1] [z, z] [z+1]\n";
+const SCRIPT: &[u8] = b"base 2\nover 2 z^2+z+1\nchar [z, 1]\n";
 
 /// Runs a comment of this many bytes.
 fn check_comment(
@@ -61,7 +61,7 @@ fn refuses_words_and_reads_nothing(rt: HostRuntime) -> Result<(), Fail> {
 
 /// A source gives one byte a call, so the script takes as many calls as it has bytes, and one more that
 /// sees the end.
-const READS: u32 = 49;
+const READS: u32 = 35;
 
 /// Runs over a source whose call with this number fails.
 fn check_read(
@@ -94,7 +94,7 @@ fn tells_a_failed_read(rt: HostRuntime) -> Result<(), Fail> {
 }
 
 /// What the script writes, in three texts.
-const OUTPUT: &[u8] = b"q = 2\nn = 2\nyes\n";
+const OUTPUT: &[u8] = b"q = 2\nn = 2\nT^2+T+1\n";
 
 /// Runs with this sink.
 fn check_write(
@@ -112,12 +112,14 @@ fn check_write(
 #[test]
 fn tells_a_failed_write(rt: HostRuntime) -> Result<(), Fail> {
     let alloc = rt.alloc();
-    for call in 1..17u32 {
-        let sink = MemSink::new(alloc, 4096, 1, vec![in alloc; call]?)?;
+    for call in 1..21u32 {
+        let sink = MemSink::new(alloc, 100, 1, vec![in alloc; call]?)?;
         let written = &OUTPUT[..call as usize - 1];
         let want = (8, written, b"write failed\n".as_slice());
         check_write(&rt, alloc, sink, sink_of(alloc, &[])?, want)?;
     }
+    let past = MemSink::new(alloc, 100, 1, vec![in alloc; 21]?)?;
+    check_write(&rt, alloc, past, sink_of(alloc, &[])?, (0, OUTPUT, b""))?;
     let second = sink_of(alloc, &[2])?;
     let want = (8, b"q = 2\n".as_slice(), b"".as_slice());
     check_write(&rt, alloc, second, sink_of(alloc, &[1])?, want)
@@ -127,7 +129,7 @@ fn tells_a_failed_write(rt: HostRuntime) -> Result<(), Fail> {
 #[test]
 fn fills_a_small_sink(rt: HostRuntime) -> Result<(), Fail> {
     let alloc = rt.alloc();
-    for room in 0..16 {
+    for room in 0..20 {
         let small = MemSink::new(alloc, room, 4096, Vec::new(alloc))?;
         let want = (8, &OUTPUT[..room], b"write failed\n".as_slice());
         check_write(&rt, alloc, small, sink_of(alloc, &[])?, want)?;

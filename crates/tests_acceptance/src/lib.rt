@@ -12,6 +12,8 @@ mod irreducible;
 #[cfg(test)]
 mod limits;
 #[cfg(test)]
+mod lists;
+#[cfg(test)]
 mod plain_count;
 #[cfg(test)]
 mod refusals;
@@ -19,3 +21,5 @@ mod refusals;
 mod runs;
 #[cfg(test)]
 mod stops;
+#[cfg(test)]
+mod words;

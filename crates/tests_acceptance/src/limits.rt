@@ -23,7 +23,28 @@ base 2;over 1 z;ore bbbbbbbbbbbbbbbbbbbbbbbbbbbbbbbb = 1 => q = 2;n = 1;bbbbbbbb
 base 2;over 1 z;ore u = ((((((((((((((((1)))))))))))))))) => q = 2;n = 1;u = 1
 base 2;over 1 z;ore u = (((((((((((((((((1))))))))))))))))) =>  => 3 line 3: not a statement
 base 2;over 1 z;bounded [0, 1] [0, 1] 65 =>  => 4 line 3: too large: bound
-base 2;over 1 z;image [0, 1] T^17 =>  => 4 line 3: too large: image";
+base 2;over 1 z;bounded [0, 1] [0, 1] 65 65 =>  => 3 line 3: not a statement
+base 2;over 1 z;image [0, 1] T^17 =>  => 4 line 3: too large: image
+base 2;over 1 z;image [0, 1] T^16 => q = 2;n = 1;t^16
+base 2;over 1 z;ore u = z^128 => q = 2;n = 1;u = 0
+base 2;over 1 z;ore u = z^129 =>  => 4 line 3: too large: exponent
+base 2;over 1 z;ore u = t^128 => q = 2;n = 1;u = t^128
+base 2;over 1 z;rank [0, 0, 0, 0, 0, 0, 0, 0, 1] => q = 2;n = 1;8
+base 2;over 1 z;mul 0 t^128;check [0, 1] [0, 1] 0;common 0 0;motive [0, 1] 0 => q = 2;n = 1;0;yes;divisor 0;left 0;right 0;[0]
+base 251 => q = 251
+base 251;over 2 z^2+250 => q = 251 => 5 line 2: the modulus of the top is reducible";
+
+/// A byte that is no text, in a comment and outside.
+#[test]
+fn refuses_bytes_outside_comments(rt: HostRuntime) -> Result<(), Fail> {
+    let script = b"base 2\nover 1 z # \xff\nrank \xff # \xff\n";
+    check_script(
+        &rt,
+        rt.alloc(),
+        script,
+        (3, b"", b"line 3: not a statement\n"),
+    )
+}
 
 #[test]
 fn tells_a_limit_that_is_passed(rt: HostRuntime) -> Result<(), Fail> {
@@ -61,13 +82,43 @@ fn repeated(alloc: Global, line: &[u8], times: usize) -> Result<Vec<u8>, Fail> {
 
 #[test]
 fn takes_1000_statements_and_no_more(rt: HostRuntime) -> Result<(), Fail> {
-    let most = repeated(rt.alloc(), b"sub 1 1\n", 998)?;
+    let most = repeated(rt.alloc(), b"rank [0, 1]\n", 998)?;
     let mut output = b"q = 2\nn = 1\n".to_vec(rt.alloc())?;
     for _ in 0..998 {
-        output.extend_from_slice(b"0\n")?;
+        output.extend_from_slice(b"1\n")?;
     }
     check_script(&rt, rt.alloc(), &most, (0, &output, b""))?;
-    let more = repeated(rt.alloc(), b"sub 1 1\n", 999)?;
+    let more = repeated(rt.alloc(), b"rank [0, 1]\n", 999)?;
     let line = b"line 1001: too large: statements\n";
     check_script(&rt, rt.alloc(), &more, (4, b"", line))
+}
+
+/// This many new names, and what is written for them.
+fn new_names(alloc: Global, count: u32) -> Result<(Vec<u8>, Vec<u8>), Fail> {
+    let mut script = b"base 2\nover 1 z\n".to_vec(alloc)?;
+    let mut output = b"q = 2\nn = 1\n".to_vec(alloc)?;
+    for k in 0..count {
+        script.extend_from_slice(format!(in alloc; "ore n{k} = 1\n")?.as_bytes())?;
+        output.extend_from_slice(format!(in alloc; "n{k} = 1\n")?.as_bytes())?;
+    }
+    Ok((script, output))
+}
+
+#[test]
+fn takes_256_names_and_no_more(rt: HostRuntime) -> Result<(), Fail> {
+    let (most, output) = new_names(rt.alloc(), 256)?;
+    check_script(&rt, rt.alloc(), &most, (0, &output, b""))?;
+    let (more, _) = new_names(rt.alloc(), 257)?;
+    let line = b"line 259: too large: names\n";
+    check_script(&rt, rt.alloc(), &more, (4, b"", line))
+}
+
+#[test]
+fn takes_a_bound_of_64(rt: HostRuntime) -> Result<(), Fail> {
+    let script = b"base 2\nover 1 z\nbounded [0, 1] [0, 1] 64\n";
+    let mut output = b"q = 2\nn = 1\nmembers 65\n1\nt\n".to_vec(rt.alloc())?;
+    for k in 2..65u32 {
+        output.extend_from_slice(format!(in rt.alloc(); "t^{k}\n")?.as_bytes())?;
+    }
+    check_script(&rt, rt.alloc(), script, (0, &output, b""))
 }
