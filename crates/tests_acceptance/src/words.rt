@@ -117,24 +117,6 @@ fn makes_the_sample(rt: HostRuntime) -> Result<(), Fail> {
     Ok(())
 }
 
-/// A number, and the first module of its sample: one whose middle coefficient is drawn 0, one whose highest is, and
-/// the greatest number.
-const FIRST_MODULES: [(u32, &str); 3] = [
-    (1972, "module m1 = [z, 0, z^5+z^2+1]"),
-    (19, "module m1 = [z, z^5+z^4+z^3+z^2+z, 1]"),
-    (4294967295, "module m1 = [z, z^5+z^4+z^3+z^2, z^5+z^4]"),
-];
-
-#[test]
-fn draws_first_modules(rt: HostRuntime) -> Result<(), Fail> {
-    for (number, line) in FIRST_MODULES {
-        let script = sample(rt.alloc(), number)?;
-        let third = script.split(|byte| *byte == b'\n').nth(2);
-        assert_eq!(rt; third, Some(line.as_bytes()));
-    }
-    Ok(())
-}
-
 /// Twice the same. The source's first call, which would fail, is still to come.
 #[test]
 fn answers_the_sample(rt: HostRuntime) -> Result<(), Fail> {
