@@ -1,6 +1,7 @@
 -- Euclid's chain over lists.
-use Rattle.std.proofs.Common.{◌≡◌, ℕ, ◌+◌, ◌<◌, ◌≤◌, true, Option, List, [], ◌∷◌, length, sym, ◌∙◌, ap, subst}
+use Rattle.std.proofs.Common.{◌≡◌, ℕ, ◌+◌, ◌<◌, ◌≤◌, true, Option, List, [], ◌∷◌, length, sym, ◌∙◌, ap, subst, arith}
 use Rattle.std.proofs.lemmas.Bool.{and_parts}
+use Rattle.std.proofs.lemmas.List.{nil_from_length}
 use Rattle.ring_core.specs.Ring.{RingOps}
 use Rattle.ring_core.specs.Field.{IsField, FrobOps, IsFrobField}
 use Rattle.ring_core.specs.Coeffs.{coeff, are_elems, is_canonical, trim}
@@ -9,7 +10,8 @@ use Rattle.ring_core.proofs.Carrier.{RingOn, same_element}
 use Rattle.ring_core.proofs.Coefficients.{trim-trimmed, canonical-trim}
 use Rattle.ore_divide.specs.Division.{IsRightDivision}
 use Rattle.ore_divide.specs.steps.Reduced.{IsReduced}
-use Rattle.ore_divide.specs.steps.Links.{IsNextLink, IsLastLink}
+use Rattle.ore_divide.specs.steps.Links.{IsNextLink, IsLastLink, AreLastLinks}
+use Rattle.euclid_theory.proofs.Sizes.{minus, minus_plus, divide}
 use Rattle.euclid_theory.proofs.Chains.{Chain, chain_start, chain_step}
 use Rattle.euclid_theory.proofs.Divisors.{Last, last_of}
 use Rattle.euclid_theory.proofs.OreSizes.{Ores, ores, size, ore_sizes}
@@ -115,6 +117,46 @@ module _ {E B : Type 0} (r : RingOps E) (inv : E → Option E) (base : RingOps B
             record { factor = e.0.0; factor_in = e.0.1; is = ap (λ x. x.0) e.1 };
         sizes = last.sizes;
         small = last.small;
+      }
+
+  -- The state of the loop at its end: where the later remainder is a constant, the next one is zero.
+  pub links_last : (a b u v su sv wu wv : List E) (ca : is_canonical r a ≡ true) (cb : is_canonical r b ≡ true) → Links a b u v su sv wu wv ca cb → length v ≤ 1 → AreLastLinks r f.frob a b u v su sv wu wv
+  links_last a b u v su sv wu wv ca cb s short =
+      let next : 0 < length v → (rest t o : List E) → IsNextLink r f.frob u v su sv wu wv rest t o → IsLastLink r f.frob a b v sv wv t o =
+      λ pos rest t o n.
+      let lower : length rest < length v = n.lower in
+      links_end a b v rest sv t wv o ca cb (links_step a b u v su sv wu wv rest t o ca cb s pos n) (nil_from_length rest (omega (arith, lower, short))) in
+      record {
+        first = s.first;
+        second = s.second;
+        left = s.left;
+        next_left = s.next_left;
+        right = s.right;
+        next_right = s.next_right;
+        falling = s.chain.falling;
+        zero = links_end a b u v su sv wu wv ca cb s;
+        constant = λ pos.
+            let d = divide R (size r inv base f k l) (ore_sizes r inv base f k l) (length u + 1) (u, s.first) (v, s.second) (omega arith) pos in
+            let p = R.mul d.quotient (sv, s.next_left) in
+            let q = R.mul d.quotient (wv, s.next_right) in
+            let t = minus R (su, s.left) p in
+            let o = minus R (wu, s.right) q in (
+              t.0,
+              o.0,
+              next pos d.rest.0 t.0 o.0
+                  (record {
+                    quotient = d.quotient.0;
+                    quotient_in = d.quotient.1;
+                    rest_in = d.rest.1;
+                    next_in = t.1;
+                    past_in = o.1;
+                    first = ap (λ x. x.0) d.sum;
+                    second = ap (λ x. x.0) (sym (minus_plus R (su, s.left) p));
+                    third = ap (λ x. x.0) (sym (minus_plus R (wu, s.right) q));
+                    lower = d.lower;
+                  }),
+            );
+        next = next;
       }
 
   -- What the end of the chain says, over the ring.

@@ -1,13 +1,14 @@
 //! Common right divisors and common left multiples. Both stand on the end of Euclid's algorithm.
-ghost use Rattle.std.specs.Prelude.{◌≡◌, ◌<◌, IfOk, [], length, true};
-ghost use Rattle.ring_core.specs.Coeffs.{is_canonical};
+ghost use Rattle.std.specs.Prelude.{◌≡◌, ◌-◌, ◌<◌, IfOk, [], length, true};
+ghost use Rattle.ring_core.specs.Ring.{IsElem};
+ghost use Rattle.ring_core.specs.Coeffs.{coeff, are_elems, is_canonical, list_of};
 ghost use Rattle.ore_divide.specs.Divisor.{IsCommonRight};
 ghost use Rattle.ore_divide.specs.Multiple.{IsLeastMultiple};
-ghost use Rattle.ore_divide.specs.steps.Links.{IsLastLink, IsMadeMonic};
+ghost use Rattle.ore_divide.specs.steps.Links.{IsLastRemainder, IsLastRelation, IsMadeMonic};
 
-use super::euclid::{LastLink, last_link};
+use super::euclid::{Link, last_relation, last_remainder};
 use ore_poly::{Ore, OreRing};
-use ring_core::lists::top_inverse;
+use ring_core::lists::{scaled_values, top_inverse};
 use ring_core::{E, Field, FrobField, NoMemory, Ring};
 use std::alloc::Global;
 
@@ -33,7 +34,26 @@ pub struct Multiple<C> {
     pub w: Ore<C>,
 }
 
-/// The monic multiple of `u` by a constant, and the constant; both are zero where `u` is.
+/// Each member of the list times `inverse`, which is one at the last: that takes no product.
+fn made_monic<K: FrobField>(
+    alloc: Global,
+    k: &K,
+    inverse: E<K>,
+    list: &[E<K>],
+) -> Result<Vec<E<K>>, NoMemory>
+    requires elems { are_elems (K.ops k.now) list.now ≡ true }
+    requires some { 0 < length list.now }
+    requires inverse_in { IsElem (K.ops k.now) inverse }
+    requires inverts { let r = K.ops k.now in r.mul (coeff r list.now (length list.now - 1)) inverse ≡ r.one }
+    ensures { IfOk result (λ v. let r = K.ops k.now in v.items ≡ list_of r (length list.now) (λ i. r.mul inverse (coeff r list.now i))) }
+{
+    let mut values = scaled_values(alloc, k, inverse, &list[..list.len() - 1])?;
+    values.push(k.one())?;
+    Ok(values)
+}
+
+/// The monic multiple of `u` by a constant, and the constant; both are zero where `u` is. Its top coefficient is one
+/// without a product.
 fn monic_of<K: FrobField>(
     alloc: Global,
     k: &K,
@@ -46,55 +66,58 @@ fn monic_of<K: FrobField>(
     let Some(inverse) = top_inverse(k, u.as_slice()) else {
         return Ok((ring.zero(alloc)?, ring.zero(alloc)?));
     };
-    let multiple = ring.scale(alloc, inverse, u)?;
+    let multiple = made_monic(alloc, k, inverse, u.as_slice())?;
     let unit = ring.make(alloc, &[inverse])?;
-    Ok((multiple, unit))
+    Ok((Ore::from_vec(multiple), unit))
 }
 
-/// Divisor and cofactors from the end of Euclid's algorithm.
+/// Divisor and cofactors from the last remainder of Euclid's algorithm.
 fn common_from<K: FrobField>(
     alloc: Global,
     k: &K,
     a: &Ore<E<K>>,
     b: &Ore<E<K>>,
-    link: LastLink<E<K>>,
+    last: Link<E<K>>,
 ) -> Result<Common<E<K>>, NoMemory>
     requires left { is_canonical (K.ops k.now) a.now ≡ true }
     requires right { is_canonical (K.ops k.now) b.now ≡ true }
     requires some { 0 < length a.now }
     requires nonzero { 0 < length b.now }
-    requires link { IsLastLink (K.ops k.now) (K.frob_ops k.now).frob a.now b.now
-        link.divisor link.left link.right link.left_factor link.right_factor }
+    requires last { IsLastRemainder (K.ops k.now) (K.frob_ops k.now).frob a.now b.now last.remainder.items last.left.items last.right.items }
     ensures { IfOk result (λ v. IsCommonRight (K.ops k.now) (K.frob_ops k.now).frob a.now b.now v.d v.s v.w) }
 {
     let ring = OreRing::new(k);
-    let (d, unit) = monic_of(alloc, k, &link.divisor)?;
-    let s = ring.mul(alloc, &unit, &link.left)?;
-    let w = ring.mul(alloc, &unit, &link.right)?;
+    let divisor = Ore::from_vec(last.remainder);
+    let left = Ore::from_vec(last.left);
+    let right = Ore::from_vec(last.right);
+    let (d, unit) = monic_of(alloc, k, &divisor)?;
+    let s = ring.mul(alloc, &unit, &left)?;
+    let w = ring.mul(alloc, &unit, &right)?;
     Ok(Common { d, s, w })
 }
 
-/// The multiple and its factors from the end of Euclid's algorithm.
+/// The multiple and its factors from the last relation of Euclid's algorithm.
 fn multiple_from<K: FrobField>(
     alloc: Global,
     k: &K,
     a: &Ore<E<K>>,
     b: &Ore<E<K>>,
-    link: LastLink<E<K>>,
+    last: Link<E<K>>,
 ) -> Result<Multiple<E<K>>, NoMemory>
     requires left { is_canonical (K.ops k.now) a.now ≡ true }
     requires right { is_canonical (K.ops k.now) b.now ≡ true }
     requires some { 0 < length a.now }
     requires nonzero { 0 < length b.now }
-    requires link { IsLastLink (K.ops k.now) (K.frob_ops k.now).frob a.now b.now
-        link.divisor link.left link.right link.left_factor link.right_factor }
+    requires last { IsLastRelation (K.ops k.now) (K.frob_ops k.now).frob a.now b.now last.left.items last.right.items }
     ensures { IfOk result (λ v. IsLeastMultiple (K.ops k.now) (K.frob_ops k.now).frob a.now b.now v.m v.s v.w) }
 {
     let ring = OreRing::new(k);
-    let product = ring.mul(alloc, &link.left_factor, a)?;
+    let left = Ore::from_vec(last.left);
+    let right = Ore::from_vec(last.right);
+    let product = ring.mul(alloc, &left, a)?;
     let (m, unit) = monic_of(alloc, k, &product)?;
-    let s = ring.mul(alloc, &unit, &link.left_factor)?;
-    let minus = ring.mul(alloc, &unit, &link.right_factor)?;
+    let s = ring.mul(alloc, &unit, &left)?;
+    let minus = ring.mul(alloc, &unit, &right)?;
     let w = ring.neg(alloc, &minus)?;
     Ok(Multiple { m, s, w })
 }
@@ -125,8 +148,8 @@ pub fn common_right<K: FrobField>(
         let s = ring.zero(alloc)?;
         return Ok(Common { d, s, w });
     }
-    let link = last_link(alloc, k, a.as_slice(), b.as_slice(), inverse)?;
-    Ok(common_from(alloc, k, a, b, link)?)
+    let last = last_remainder(alloc, k, a.as_slice(), b.as_slice(), inverse)?;
+    Ok(common_from(alloc, k, a, b, last)?)
 }
 
 /// Three zeros.
@@ -160,6 +183,6 @@ pub fn common_multiple<K: FrobField>(
     let Some(inverse) = top_inverse(k, b.as_slice()) else {
         return Ok(no_multiple(alloc, k)?);
     };
-    let link = last_link(alloc, k, a.as_slice(), b.as_slice(), inverse)?;
-    Ok(multiple_from(alloc, k, a, b, link)?)
+    let last = last_relation(alloc, k, a.as_slice(), b.as_slice(), inverse)?;
+    Ok(multiple_from(alloc, k, a, b, last)?)
 }

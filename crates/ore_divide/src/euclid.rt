@@ -3,32 +3,27 @@
 ghost use Rattle.std.specs.Prelude.{◌≡◌, ℕ, ◌+◌, ◌-◌, ◌<◌, ◌≤◌, IfOk, length, true};
 ghost use Rattle.ring_core.specs.Ring.{IsElem};
 ghost use Rattle.ring_core.specs.Coeffs.{coeff, trim, are_elems, is_canonical};
-ghost use Rattle.ore_divide.specs.steps.Links.{IsNextLink, IsLastLink};
+ghost use Rattle.ore_divide.specs.steps.Links.{IsNextLink, AreLastLinks, IsLastRemainder, IsLastRelation};
 
 use super::lists::divide_list;
 use super::rows::reduce_rows;
-use ore_poly::Ore;
 use ring_core::lists::{copy_list, neg_list, single_list, top_inverse, trimmed};
 use ring_core::{E, Field, FrobField, NoMemory};
 use std::alloc::Global;
 
 /// A remainder and its cofactors: it is `left a + right b`.
 #[derive(Drop)]
-struct Link<C> {
-    remainder: Vec<C>,
-    left: Vec<C>,
-    right: Vec<C>,
+pub(crate) struct Link<C> {
+    pub(crate) remainder: Vec<C>,
+    pub(crate) left: Vec<C>,
+    pub(crate) right: Vec<C>,
 }
 
-/// The end of the algorithm: the last remainder that isn't zero, `divisor = left a + right b`, and the relation
-/// after it, `left_factor a + right_factor b = 0`.
+/// Two links that follow each other, of which the second has the remainder zero or a constant.
 #[derive(Drop)]
-pub(crate) struct LastLink<C> {
-    pub(crate) divisor: Ore<C>,
-    pub(crate) left: Ore<C>,
-    pub(crate) right: Ore<C>,
-    pub(crate) left_factor: Ore<C>,
-    pub(crate) right_factor: Ore<C>,
+struct LastLinks<C> {
+    before: Link<C>,
+    after: Link<C>,
 }
 
 /// The list with zeros behind it, of `n` members where it had fewer.
@@ -45,12 +40,11 @@ fn grown<K: Field>(field: &K, list: Vec<E<K>>, n: usize) -> Result<Vec<E<K>>, No
     Ok(grown)
 }
 
-/// The link after `before` and `after`; `inverse` is that of the top coefficient of the remainder of `after`.
+/// The link after `before` and `after`, whose remainder isn't zero.
 fn next_link<K: FrobField>(
     field: &K,
     before: Link<E<K>>,
     after: &Link<E<K>>,
-    inverse: E<K>,
 ) -> Result<Link<E<K>>, NoMemory>
     requires first { is_canonical (K.ops field.now) before.remainder.items ≡ true }
     requires second { is_canonical (K.ops field.now) after.now.remainder.items ≡ true }
@@ -60,13 +54,13 @@ fn next_link<K: FrobField>(
     requires next_right { is_canonical (K.ops field.now) after.now.right.items ≡ true }
     requires falling { length after.now.remainder.items < length before.remainder.items }
     requires nonzero { 0 < length after.now.remainder.items }
-    requires inverse_in { IsElem (K.ops field.now) inverse }
-    requires inverts { let r = K.ops field.now in
-        r.mul (coeff r after.now.remainder.items (length after.now.remainder.items - 1)) inverse ≡ r.one }
     ensures { IfOk result (λ v. IsNextLink (K.ops field.now) (K.frob_ops field.now).frob
         before.remainder.items after.now.remainder.items before.left.items after.now.left.items before.right.items after.now.right.items
         v.remainder.items v.left.items v.right.items) }
 {
+    let Some(inverse) = top_inverse(field, &after.remainder) else {
+        unreachable!();
+    };
     let fall = before.remainder.len() - after.remainder.len();
     let Some(left_room) = after.left.len().checked_add(fall) else {
         return Err(NoMemory);
@@ -94,21 +88,22 @@ fn next_link<K: FrobField>(
     })
 }
 
-/// The end of the algorithm for `a` and `b`; `inverse` is that of the top coefficient of `b`.
-pub(crate) fn last_link<K: FrobField>(
+/// The links before the end of the algorithm, of which the second has the remainder zero or a constant; `inverse` is
+/// that of the top coefficient of `b`.
+fn last_links<K: FrobField>(
     alloc: Global,
     field: &K,
     a: &[E<K>],
     b: &[E<K>],
     inverse: E<K>,
-) -> Result<LastLink<E<K>>, NoMemory>
+) -> Result<LastLinks<E<K>>, NoMemory>
     requires left { is_canonical (K.ops field.now) a.now ≡ true }
     requires right { is_canonical (K.ops field.now) b.now ≡ true }
     requires nonzero { 0 < length b.now }
     requires inverse_in { IsElem (K.ops field.now) inverse }
     requires inverts { let r = K.ops field.now in r.mul (coeff r b.now (length b.now - 1)) inverse ≡ r.one }
-    ensures { IfOk result (λ v. IsLastLink (K.ops field.now) (K.frob_ops field.now).frob a.now b.now
-        v.divisor v.left v.right v.left_factor v.right_factor) }
+    ensures { IfOk result (λ v. AreLastLinks (K.ops field.now) (K.frob_ops field.now).frob a.now b.now
+        v.before.remainder.items v.after.remainder.items v.before.left.items v.after.left.items v.before.right.items v.after.right.items) }
 {
     let (quotient, remainder) = divide_list(alloc, field, a, b, inverse)?;
     let mut before = Link {
@@ -121,16 +116,57 @@ pub(crate) fn last_link<K: FrobField>(
         left: single_list(alloc, field.one())?,
         right: neg_list(alloc, field, &quotient)?,
     };
-    while let Some(inverse) = top_inverse(field, &after.remainder) {
-        let next = next_link(field, before, &after, inverse)?;
+    while after.remainder.len() > 1 {
+        let next = next_link(field, before, &after)?;
         before = after;
         after = next;
     }
-    Ok(LastLink {
-        divisor: Ore::from_vec(before.remainder),
-        left: Ore::from_vec(before.left),
-        right: Ore::from_vec(before.right),
-        left_factor: Ore::from_vec(after.left),
-        right_factor: Ore::from_vec(after.right),
-    })
+    Ok(LastLinks { before, after })
+}
+
+/// The last remainder that isn't zero, with its cofactors. Cofactors of the zero after it aren't computed where it is a
+/// constant.
+pub(crate) fn last_remainder<K: FrobField>(
+    alloc: Global,
+    field: &K,
+    a: &[E<K>],
+    b: &[E<K>],
+    inverse: E<K>,
+) -> Result<Link<E<K>>, NoMemory>
+    requires left { is_canonical (K.ops field.now) a.now ≡ true }
+    requires right { is_canonical (K.ops field.now) b.now ≡ true }
+    requires nonzero { 0 < length b.now }
+    requires inverse_in { IsElem (K.ops field.now) inverse }
+    requires inverts { let r = K.ops field.now in r.mul (coeff r b.now (length b.now - 1)) inverse ≡ r.one }
+    ensures { IfOk result (λ v. IsLastRemainder (K.ops field.now) (K.frob_ops field.now).frob a.now b.now v.remainder.items v.left.items v.right.items) }
+{
+    let last = last_links(alloc, field, a, b, inverse)?;
+    if last.after.remainder.is_empty() {
+        Ok(last.before)
+    } else {
+        Ok(last.after)
+    }
+}
+
+/// The link with the remainder zero: its cofactors are the relation of which every other one is a multiple.
+pub(crate) fn last_relation<K: FrobField>(
+    alloc: Global,
+    field: &K,
+    a: &[E<K>],
+    b: &[E<K>],
+    inverse: E<K>,
+) -> Result<Link<E<K>>, NoMemory>
+    requires left { is_canonical (K.ops field.now) a.now ≡ true }
+    requires right { is_canonical (K.ops field.now) b.now ≡ true }
+    requires nonzero { 0 < length b.now }
+    requires inverse_in { IsElem (K.ops field.now) inverse }
+    requires inverts { let r = K.ops field.now in r.mul (coeff r b.now (length b.now - 1)) inverse ≡ r.one }
+    ensures { IfOk result (λ v. IsLastRelation (K.ops field.now) (K.frob_ops field.now).frob a.now b.now v.left.items v.right.items) }
+{
+    let last = last_links(alloc, field, a, b, inverse)?;
+    if last.after.remainder.is_empty() {
+        Ok(last.after)
+    } else {
+        Ok(next_link(field, last.before, &last.after)?)
+    }
 }

@@ -7,7 +7,8 @@ use std::alloc::Global;
 use std::process::Abort;
 use std::test::Fail;
 use tests_support::counting::CountingField;
-use tests_support::fields::{TWELVE, elements, tower};
+use tests_support::fields::{FOUR, TWELVE, elements, tower};
+use tests_support::plain::numbered;
 use tests_support::twisted::made;
 
 /// That at most `most` products, as many steps of the Frobenius and one inverse were counted.
@@ -54,22 +55,18 @@ fn check_division<K: FrobField>(
     check_counts(rt, &counting, most)
 }
 
-/// The products that the common divisor of two operands makes with its cofactors. It must be one.
-fn divisor_cost<K: FrobField>(
+/// How many products the common divisor of two operands makes with its cofactors.
+fn common_cost<K: FrobField>(
     alloc: Global,
     field: &K,
     a: &[E<K>],
     b: &[E<K>],
-) -> Result<u64, Fail> {
+) -> Result<(u64, usize), Fail> {
     let counting = CountingField::new(field);
     let left = made(alloc, &counting, a)?;
     let right = made(alloc, &counting, b)?;
     let v = common_right(alloc, &counting, &left, &right)?;
-    if v.d.len() == 1 {
-        Ok(counting.products())
-    } else {
-        Err(Fail::new("operands without a common divisor"))
-    }
+    Ok((counting.products(), v.d.len()))
 }
 
 #[test]
@@ -95,8 +92,8 @@ fn divisions(rt: HostRuntime) -> Result<(), Fail> {
     Ok(())
 }
 
-/// Two operands of degree `d` whose only common divisors are constants take at most `3 d^2 + 6 d + 2` products: `d^2`
-/// for the remainders, and twice as many for the cofactors. From degree 7 on that is below `4 d^2`.
+/// Two operands of degree `d` whose only common divisors are constants take at most `3 d^2 + 2 d - 1` products, which is
+/// at most `4 d^2`: `d^2` for the remainders, and twice as many for the cofactors.
 #[test]
 fn common_divisors(rt: HostRuntime) -> Result<(), Fail> {
     let alloc = rt.alloc();
@@ -106,10 +103,29 @@ fn common_divisors(rt: HostRuntime) -> Result<(), Fail> {
     for d in [1, 2, 3, 6, 7, 8, 16, 32, 64] {
         let a = drawn(alloc, (&names, 4096), &mut state, d + 1)?;
         let b = drawn(alloc, (&names, 4096), &mut state, d + 1)?;
-        let products = divisor_cost(alloc, &field, &a, &b)?;
+        let (products, length) = common_cost(alloc, &field, &a, &b)?;
         let n = d as u64;
-        assert!(rt; products <= 3 * n * n + 6 * n + 2, "{d}");
-        assert!(rt; n < 7 || products <= 4 * n * n, "{d}");
+        assert!(rt; length == 1, "a common divisor of degree {d}");
+        assert!(rt; products < 3 * n * n + 2 * n, "{d}");
+    }
+    Ok(())
+}
+
+/// Any two operands of degree `d` take at most `4 d^2` products: here all of degrees 1 and 2 over four elements.
+#[test]
+fn small_common_divisors(rt: HostRuntime) -> Result<(), Fail> {
+    let alloc = rt.alloc();
+    let field = tower(alloc, FOUR)?;
+    let names = elements(alloc, &field, 4)?;
+    for (length, low, high, most) in [(2, 4, 16, 4), (3, 16, 64, 16)] {
+        for a in low..high {
+            let left = numbered(alloc, &names, length, a)?;
+            for b in low..high {
+                let right = numbered(alloc, &names, length, b)?;
+                let (products, _) = common_cost(alloc, &field, &left, &right)?;
+                assert!(rt; products <= most, "{a} {b}");
+            }
+        }
     }
     Ok(())
 }

@@ -34,6 +34,27 @@ pub record IsLastLink {E : Type 0} (r : RingOps E) (frob : E → ℕ → E) (a b
   pub sizes : length t + length d ≡ length b + 1
   pub small : length s < length t
 
+-- `d = s a + w b` is the last remainder that isn't zero.
+abbrev pub IsLastRemainder : {E : Type 0} → RingOps E → (E → ℕ → E) → List E → List E → List E → List E → List E → Type 0
+IsLastRemainder {E} r frob a b d s w = (t v : List E) × IsLastLink r frob a b d s w t v
+
+-- `t a + v b = 0` is the relation after it.
+abbrev pub IsLastRelation : {E : Type 0} → RingOps E → (E → ℕ → E) → List E → List E → List E → List E → Type 0
+IsLastRelation {E} r frob a b t v = (d s w : List E) × IsLastLink r frob a b d s w t v
+
+-- `u` and `v` follow each other in the chain, and `v` is zero or a constant: so `u`, or else `v`, is the last remainder.
+pub record AreLastLinks {E : Type 0} (r : RingOps E) (frob : E → ℕ → E) (a b u v su sv wu wv : List E) : Type 0 where
+  pub first : is_canonical r u ≡ true
+  pub second : is_canonical r v ≡ true
+  pub left : is_canonical r su ≡ true
+  pub next_left : is_canonical r sv ≡ true
+  pub right : is_canonical r wu ≡ true
+  pub next_right : is_canonical r wv ≡ true
+  pub falling : length v < length u
+  pub zero : v ≡ [] → IsLastLink r frob a b u su wu sv wv
+  pub constant : 0 < length v → IsLastRemainder r frob a b v sv wv
+  pub next : 0 < length v → (rest t o : List E) → IsNextLink r frob u v su sv wu wv rest t o → IsLastLink r frob a b v sv wv t o
+
 -- `d = e u` is monic, and `e` an invertible constant; both are zero where `u` is.
 pub record IsMadeMonic {E : Type 0} (r : RingOps E) (frob : E → ℕ → E) (u d e : List E) : Type 0 where
   pub multiple_in : is_canonical r d ≡ true

@@ -28,8 +28,8 @@ returns g c =
     let left_kept : length next ≡ left.len = omega arith in
     let right_kept : length past ≡ right.len = omega arith in
     let reduced : IsReduced r f.frob u.items left.items right.items v after.left.items after.right.items cleared next past =
-    rw (c.deref_mut.ensures.value, c.deref_mut-2.ensures.value, c.deref_mut-3.ensures.value, c.deref.ensures.value, c.deref-2.ensures.value, c.deref-3.ensures.value) at c.reduce_rows.ensures.reduced in
-    let zeros : (n : ℕ) → length v ≤ n + 1 → coeff r cleared n ≡ r.zero = rw c.deref.ensures.value at c.reduce_rows.ensures.cleared in
+    rw (c.deref_mut.ensures.value, c.deref_mut-2.ensures.value, c.deref_mut-3.ensures.value, c.deref-2.ensures.value, c.deref-3.ensures.value, c.deref-4.ensures.value) at c.reduce_rows.ensures.reduced in
+    let zeros : (n : ℕ) → length v ≤ n + 1 → coeff r cleared n ≡ r.zero = rw c.deref-2.ensures.value at c.reduce_rows.ensures.cleared in
     link_done r (g.K.Field.inv_of k) _ f (g.met.K.Field.laws k) (g.met.K.FrobField.frob_laws k)
     u.items v c.args.before.left.items after.left.items c.args.before.right.items after.right.items left.items right.items cleared next past _ _ _
     c.requires.first c.requires.second c.requires.left c.requires.right c.reduce_rows.ensures.rest c.reduce_rows.ensures.left c.reduce_rows.ensures.right c.requires.nonzero zeros

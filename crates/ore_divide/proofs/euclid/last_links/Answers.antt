@@ -1,10 +1,10 @@
-use Rattle.std.proofs.Common.{◌<◌, ◌∷◌, [], length, sym, ap, ◌∙◌, subst}
+use Rattle.std.proofs.Common.{◌<◌, ◌≤◌, ◌∷◌, [], length, ap, ◌∙◌, arith}
 use Rattle.ring_core.specs.Twisted.{list_neg}
-use Rattle.ore_divide.proofs.Links.{links_start, links_step, links_end}
-use Rattle.ore_divide.proofs.euclid.last_link.Goals as goal
+use Rattle.ore_divide.proofs.Links.{links_start, links_step, links_last}
+use Rattle.ore_divide.proofs.euclid.last_links.Goals as goal
 
-pub loop-inverse-init : goal.loop-inverse-init
-loop-inverse-init g c =
+pub loop-before-init : goal.loop-before-init
+loop-before-init g c =
     let k = c.args.field.now in
     let r = g.K.Field.ops k in
     record {
@@ -17,13 +17,15 @@ loop-inverse-init g c =
           (c.in_ok-single_list.ensures ∙ ap (λ x. x ∷ []) c.one.ensures.value) (c.in_ok-neg_list.ensures.value ∙ ap (list_neg r) c.deref.ensures.value);
     }
 
-pub loop-inverse-preserved : goal.loop-inverse-preserved
-loop-inverse-preserved g c =
+pub loop-before-preserved : goal.loop-before-preserved
+loop-before-preserved g c =
     let k = c.args.field.now in
-    let held = c.loop-inverse.invariant in
-    let before = c.loop-inverse.before in
-    let after = c.loop-inverse.after in
-    let some = subst (λ n. 0 < n) (ap length c.deref-in-loop-inverse.ensures.value) c.in-Some.ensures.0 in
+    let held = c.loop-before.invariant in
+    let before = c.loop-before.before in
+    let after = c.loop-before.after in
+    let long : 1 < c.len.result = c.loop-before-test.true in
+    let ok = after.remainder.ok.0 in
+    let some : 0 < length after.remainder.items = omega (arith, long, ok) in
     record {
       left = held.left;
       right = held.right;
@@ -36,10 +38,12 @@ loop-inverse-preserved g c =
 pub returns : goal.returns
 returns g c =
     let k = c.args.field.now in
-    let held = c.loop-inverse.invariant in
-    let before = c.loop-inverse.before in
-    let after = c.loop-inverse.after in
-    rw (c.from_vec.ensures, c.from_vec-2.ensures, c.from_vec-3.ensures, c.from_vec-4.ensures, c.from_vec-5.ensures)
-    (links_end (g.K.Field.ops k) (g.K.Field.inv_of k) _ (g.K.FrobField.frob_ops k) (g.met.K.Field.laws k) (g.met.K.FrobField.frob_laws k) c.args.a.now c.args.b.now
+    let held = c.loop-before.invariant in
+    let before = c.loop-before.before in
+    let after = c.loop-before.after in
+    let few : c.len.result ≤ 1 = c.loop-before-test.false in
+    let ok = after.remainder.ok.0 in
+    let short : length after.remainder.items ≤ 1 = omega (arith, few, ok) in
+    links_last (g.K.Field.ops k) (g.K.Field.inv_of k) _ (g.K.FrobField.frob_ops k) (g.met.K.Field.laws k) (g.met.K.FrobField.frob_laws k) c.args.a.now c.args.b.now
     before.remainder.items after.remainder.items before.left.items after.left.items before.right.items after.right.items
-    held.left held.right held.links (sym c.deref-in-loop-inverse.ensures.value ∙ c.in_default.ensures))
+    held.left held.right held.links short

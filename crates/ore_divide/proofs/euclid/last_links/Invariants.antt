@@ -1,10 +1,10 @@
 use Rattle.std.proofs.Common.{◌≡◌, length, true}
 use Rattle.ring_core.specs.Coeffs.{is_canonical}
 use Rattle.ore_divide.proofs.Links.{Links}
-use Rattle.ore_divide.proofs.euclid.last_link.Given as goal
+use Rattle.ore_divide.proofs.euclid.last_links.Given as goal
 
-abbrev pub invariant-loop-inverse : goal.invariant-loop-inverse
-invariant-loop-inverse g l =
+abbrev pub invariant-loop-before : goal.invariant-loop-before
+invariant-loop-before g l =
     let k = l.field in
     let r = g.K.Field.ops k in
     record {
@@ -14,5 +14,5 @@ invariant-loop-inverse g l =
           l.before.remainder.items l.after.remainder.items l.before.left.items l.after.left.items l.before.right.items l.after.right.items left right;
     }
 
-abbrev pub decreases-loop-inverse : goal.decreases-loop-inverse
-decreases-loop-inverse g l = length l.after.remainder.items
+abbrev pub decreases-loop-before : goal.decreases-loop-before
+decreases-loop-before g l = length l.after.remainder.items
