@@ -2,6 +2,7 @@
 #![tactic(auto)]
 
 mod fault_line;
+pub mod laws;
 mod program;
 mod status;
 

@@ -1,13 +1,12 @@
 -- The text of an element: a sum of powers of `z`.
-use Rattle.std.proofs.Common.{◌≡◌, ℕ, zero, suc, ◌+◌, ◌*◌, ◌-◌, ◌/◌, ◌%◌, ◌<◌, ◌≤◌, ◌==◌, ◌&&◌, Bool, true, false, if◌then◌else◌, Some, List, [], ◌∷◌, ◌++◌, length, map, codes, decimal, refl, sym, ap, ap₂, subst, ◌∙◌, arith}
+use Rattle.std.proofs.Common.{◌≡◌, ℕ, zero, suc, ◌+◌, ◌*◌, ◌/◌, ◌<◌, ◌≤◌, ◌==◌, Bool, true, false, if◌then◌else◌, Some, List, [], ◌∷◌, ◌++◌, length, map, codes, decimal, refl, sym, ap, ap₂, subst, ◌∙◌, arith}
 use Rattle.std.specs.Prelude.{nat_lt}
 use Rattle.std.specs.List.{flat_map, list_all}
 use Rattle.std.proofs.lemmas.Bool.{false≢true, and_from, and_parts, ltb-true, ne_eqb}
 use Rattle.std.proofs.lemmas.List.{length-append}
 use Rattle.std.proofs.lemmas.Fmt.{decimal_digit}
-use Rattle.ring_core.specs.Coeffs.{first_values}
 use Rattle.residue_field.specs.Digits.{digit}
-use Rattle.answer.specs.Sums.{term_text, term_of, joined, or_zero, sum_text}
+use Rattle.answer.specs.Sums.{term_text, term_of, or_zero, sum_text}
 use Rattle.answer.specs.Elements.{numbers}
 use Rattle.sample_script.specs.Sample.{element}
 

@@ -1,12 +1,12 @@
 -- The sample has few bytes.
-use Rattle.std.proofs.Common.{◌≡◌, ℕ, zero, suc, ◌+◌, ◌*◌, ◌-◌, ◌<◌, ◌≤◌, ◌==◌, Bool, true, false, if◌then◌else◌, List, [], ◌∷◌, ◌++◌, length, codes, decimal, refl, sym, ap, subst, ◌∙◌, arith}
+use Rattle.std.proofs.Common.{◌≡◌, ℕ, suc, ◌*◌, ◌-◌, ◌<◌, ◌≤◌, ◌==◌, Bool, true, false, if◌then◌else◌, List, [], ◌∷◌, ◌++◌, length, codes, decimal, refl, arith}
 use Rattle.std.specs.Prelude.{nat_lt}
 use Rattle.std.specs.List.{flat_map, list_all}
 use Rattle.std.proofs.lemmas.Bool.{and_parts, ltb-true}
 use Rattle.std.proofs.lemmas.List.{length-append}
 use Rattle.std.proofs.lemmas.Fmt.{length-decimal-le}
 use Rattle.ring_core.specs.Coeffs.{first_values}
-use Rattle.sample_script.specs.Sample.{draw, element, top_element, name_of, module_text, module_line, count_line, twelve, sample_text}
+use Rattle.sample_script.specs.Sample.{draw, element, top_element, name_of, module_line, count_line, twelve, sample_text}
 use Rattle.sample_script.proofs.Element.{element_short}
 
 top_short : (d : ℕ) → length (top_element d) ≤ 32
@@ -16,7 +16,7 @@ top_short d = at (d == 0)
     at true = omega arith
     at false = element_short d
 
-name_short : (k : ℕ) → k < 13 → length (name_of k) ≤ 3
+pub name_short : (k : ℕ) → k < 13 → length (name_of k) ≤ 3
 name_short k l =
     let digits = length-decimal-le 2 k (omega arith) (omega (arith, l)) (omega (arith, l)) in
     let all : length (name_of k) ≡ suc (length (decimal k)) = refl in

@@ -1,5 +1,3 @@
-use Rattle.std.proofs.Common.{◌≡◌, Some}
-use Rattle.text_io.specs.Bytes.{Rose}
 use Rattle.command_words.specs.Words.{options_of, texts_of}
 use Rattle.drinfeld_cli.proofs.Completeness.{complete}
 use Rattle.drinfeld_cli.proofs.CompleteStop.{complete_stop}

@@ -1,4 +1,4 @@
-use Rattle.std.proofs.Common.{◌≡◌, rules, arith}
+use Rattle.std.proofs.Common.{◌≡◌, arith}
 use Rattle.sample_script.specs.Sample.{count_line}
 use Rattle.sample_script.proofs.Twelve.{one_line, all_lines}
 use Rattle.sample_script.proofs.script.write_counts.Goals as goal

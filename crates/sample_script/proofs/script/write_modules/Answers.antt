@@ -1,4 +1,4 @@
-use Rattle.std.proofs.Common.{◌≡◌, ◌∙◌, ◌++◌, rules, arith, ap}
+use Rattle.std.proofs.Common.{◌≡◌, ◌∙◌, ◌++◌, arith, ap}
 use Rattle.sample_script.specs.Sample.{module_line}
 use Rattle.sample_script.proofs.Twelve.{one_line, all_lines, drawn, drawn_twice}
 use Rattle.sample_script.proofs.script.write_modules.Goals as goal
