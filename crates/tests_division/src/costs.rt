@@ -6,14 +6,14 @@ use ring_core::{E, FrobField};
 use std::alloc::Global;
 use std::process::Abort;
 use std::test::Fail;
-use tests_support::counting::CountingField;
+use tests_support::counting::CountingTower;
 use tests_support::fields::{TWELVE, elements, tower};
 use tests_support::twisted::made;
 
 /// That at most `most` products, as many steps of the Frobenius and one inverse were counted.
 fn check_counts<K: FrobField>(
     rt: &impl Abort,
-    counting: &CountingField<K>,
+    counting: &CountingTower<K>,
     most: u64,
 ) -> Result<(), Fail> {
     assert!(rt;
@@ -42,12 +42,12 @@ fn check_division<K: FrobField>(
         .saturating_add(1)
         .saturating_sub(b.len() as u64)
         .saturating_mul(b.len() as u64);
-    let counting = CountingField::new(field);
+    let counting = CountingTower::new(field);
     let left = made(alloc, &counting, a)?;
     let right = made(alloc, &counting, b)?;
     right_divide(alloc, &counting, &left, &right)?;
     check_counts(rt, &counting, most)?;
-    let counting = CountingField::new(field);
+    let counting = CountingTower::new(field);
     let left = made(alloc, &counting, a)?;
     let right = made(alloc, &counting, b)?;
     left_divide(alloc, &counting, &left, &right)?;
@@ -61,7 +61,7 @@ fn divisor_cost<K: FrobField>(
     a: &[E<K>],
     b: &[E<K>],
 ) -> Result<u64, Fail> {
-    let counting = CountingField::new(field);
+    let counting = CountingTower::new(field);
     let left = made(alloc, &counting, a)?;
     let right = made(alloc, &counting, b)?;
     let v = common_right(alloc, &counting, &left, &right)?;
