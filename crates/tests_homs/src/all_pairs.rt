@@ -18,7 +18,8 @@ struct Multiples<C> {
     right: Vec<Vec<C>>,
 }
 
-fn push<T: Drop>(list: &mut Vec<T>, member: T) -> Result<(), Fail> {
+/// Puts the member after the others.
+pub fn push<T: Drop>(list: &mut Vec<T>, member: T) -> Result<(), Fail> {
     let Ok(()) = list.push(member) else {
         return Err(Fail::new("memory for a list"));
     };

@@ -1,11 +1,11 @@
 //! How many products a bounded list costs: those of the field that make the system, and those of the base that its
 //! kernel makes.
-use super::counting::CountingTower;
 use super::modules::bounded_between;
 use ring_core::{E, FrobField};
 use std::alloc::Global;
 use std::process::Abort;
 use std::test::Fail;
+use tests_support::counting::CountingTower;
 use tests_support::fields::{elements, tower};
 use tests_support::twisted::row;
 

@@ -48,7 +48,7 @@ fn lists(rt: HostRuntime) -> Result<(), Fail> {
 }
 
 /// `c` behind `k` zeros.
-fn behind_zeros<K: Field>(
+pub fn behind_zeros<K: Field>(
     alloc: Global,
     field: &K,
     k: usize,

@@ -3,8 +3,8 @@ ghost use Rattle.std.specs.Prelude.{◌≡◌, IfOk};
 ghost use Rattle.drinfeld_mod.specs.Module.{IsModule, constant_of};
 
 use drinfeld_mod::{Module, make};
-use hom_space::bounded;
-use isomorphism::isomorphic;
+use hom_space::{bounded, bounded_from, full};
+use isomorphism::{isogenous, isomorphic};
 use ore_poly::Ore;
 use ring_core::lists::all_elems;
 use ring_core::{E, Field, FrobField};
@@ -68,4 +68,43 @@ pub fn isomorphism_between<K: FrobField>(
     let psi = module(alloc, field, psi)?;
     meet(field, &phi, &psi)?;
     Ok(isomorphic(alloc, field, &phi, &psi)?)
+}
+
+/// The full list between two modules, and the bounded list that is made from it.
+#[derive(Drop)]
+pub struct FullLists<C> {
+    pub full: Vec<Ore<C>>,
+    pub bounded: Vec<Ore<C>>,
+}
+
+/// The full list between the modules with these coefficients, and the bounded list for `d` made from it.
+pub fn full_between<K: FrobField>(
+    alloc: Global,
+    field: &K,
+    phi: &[E<K>],
+    psi: &[E<K>],
+    d: usize,
+) -> Result<FullLists<E<K>>, Fail> {
+    let phi = module(alloc, field, phi)?;
+    let psi = module(alloc, field, psi)?;
+    meet(field, &phi, &psi)?;
+    if d > 64 {
+        return Err(Fail::new("a degree up to 64"));
+    }
+    let full = full(alloc, field, &phi, &psi)?;
+    let bounded = bounded_from(alloc, field, &phi, &psi, &full, d)?;
+    Ok(FullLists { full, bounded })
+}
+
+/// The isogeny between the modules with these coefficients.
+pub fn isogeny_between<K: FrobField>(
+    alloc: Global,
+    field: &K,
+    phi: &[E<K>],
+    psi: &[E<K>],
+) -> Result<Option<Ore<E<K>>>, Fail> {
+    let phi = module(alloc, field, phi)?;
+    let psi = module(alloc, field, psi)?;
+    meet(field, &phi, &psi)?;
+    Ok(isogenous(alloc, field, &phi, &psi)?)
 }

@@ -9,6 +9,9 @@ use std::test::Fail;
 /// The field of four elements, modulo `z^2 + z + 1` over two elements.
 pub const FOUR: &str = "2 1; 0 1 | 2; 1 1 1";
 
+/// The field of eight elements, modulo `z^3 + z + 1` over two elements.
+pub const EIGHT: &str = "2 1; 0 1 | 3; 1 1 0 1";
+
 /// The field of nine elements, modulo `z^2 + 1` over three elements.
 pub const NINE: &str = "3 1; 0 1 | 2; 1 0 1";
 
