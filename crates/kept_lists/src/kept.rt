@@ -1,4 +1,4 @@
-ghost use Rattle.std.specs.Prelude.{◌≡◌, ◌++◌, ◌∷◌, [], is_some, IfSome, OnSome, OnOk, OnErr, length};
+ghost use Rattle.std.specs.Prelude.{◌≡◌, ◌++◌, ◌∷◌, ◌≤◌, [], is_some, IfSome, OnSome, OnOk, OnErr, length};
 ghost use Rattle.drinfeld_mod.specs.Module.{IsModule, constant_of};
 ghost use Rattle.hom_space.specs.Full.{IsFullList};
 ghost use Rattle.kept_lists.specs.Kept.{IsKeptList, AreFullLists};
@@ -11,6 +11,9 @@ use ring_core::{E, FrobField, NoMemory};
 use sqlite_items::Items;
 use std::alloc::Global;
 use std::marker::Model;
+
+/// How many lists are kept at most.
+const MOST_LISTS: usize = 8;
 
 /// The full list of the homomorphisms from `source` to `target`.
 #[derive(Drop)]
@@ -33,6 +36,10 @@ impl<C> Model for KeptLists<C> {
     ghost Value = { List (Kept C) };
 
     ghost view = { λ k. k.lists.items };
+
+    ghost use Rattle.std.specs.Prelude.{◌≤◌, length};
+
+    ghost invariant = { λ k. length k.lists.items ≤ 8 };
 }
 
 impl<C: Copy> KeptLists<C> {
@@ -45,9 +52,10 @@ impl<C: Copy> KeptLists<C> {
         }
     }
 
-    /// How many lists are kept.
+    /// How many lists are kept, which is at most 8.
     pub fn len(&self) -> usize
-        ensures { result ≡ length self.now }
+        ensures value { result ≡ length self.now }
+        ensures few { result ≤ 8 }
     {
         self.lists.len()
     }
@@ -66,7 +74,7 @@ impl<C: Copy> KeptLists<C> {
         ensures same { OnErr result (self.new ≡ self.old) }
     {
         self.lists.push(list)?;
-        for _ in 8..self.lists.len() {
+        if self.lists.len() > MOST_LISTS {
             self.lists.remove(0);
         }
         Ok(())
@@ -74,12 +82,7 @@ impl<C: Copy> KeptLists<C> {
 }
 
 /// Whether the list is that of the two modules.
-fn is_of<K: FrobField>(
-    k: &K,
-    list: &KeptList<E<K>>,
-    phi: &Module<E<K>>,
-    psi: &Module<E<K>>,
-) -> bool
+fn is_of<K: FrobField>(k: &K, list: &KeptList<E<K>>, phi: &Module<E<K>>, psi: &Module<E<K>>) -> bool
     requires kept { IsKeptList (K.ops k.now) (K.Base.ops (K.base_of k.now)) (K.frob_ops k.now) list.now }
     requires source { IsModule (K.ops k.now) phi.now }
     requires target { IsModule (K.ops k.now) psi.now }
@@ -104,9 +107,9 @@ pub fn find<'a, K: FrobField>(
     ensures full { IfSome result (λ list. IsFullList (K.ops k.now) (K.Base.ops (K.base_of k.now)) (K.frob_ops k.now) phi.now psi.now list.now) }
     ensures constants { OnSome result (constant_of (K.ops k.now) phi.now ≡ constant_of (K.ops k.now) psi.now) }
 {
-    for i in 0..kept.lists.len() {
-        if is_of(k, &kept.lists[i], phi, psi) {
-            return Some(kept.lists[i].members.as_slice());
+    for list in &kept.lists {
+        if is_of(k, list, phi, psi) {
+            return Some(list.members.as_slice());
         }
     }
     None
