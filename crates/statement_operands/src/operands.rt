@@ -1,4 +1,4 @@
-ghost use Rattle.std.specs.Prelude.{◌≡◌, ◌≢◌, ◌≤◌, length, option_map, None, true, false, not, ⊥, IfOk, IfErr, IfSome, OnOk, OnErr};
+ghost use Rattle.std.specs.Prelude.{◌≡◌, ◌≢◌, ◌≤◌, length, option_map, None, true, false, not, IfOk, IfErr, IfSome, OnOk, OnErr};
 ghost use Rattle.ring_core.specs.Coeffs.{are_elems, is_canonical};
 ghost use Rattle.residue_field.specs.Top.{ops_of_top};
 ghost use Rattle.drinfeld_mod.specs.Module.{IsModule};
