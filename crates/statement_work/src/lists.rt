@@ -1,6 +1,6 @@
 //! Lists of homomorphisms of two modules, whose constants are to be equal, and what their first members tell. Full lists
 //! are kept, and what is asked again of two modules is told from their list.
-ghost use Rattle.std.specs.Prelude.{◌≡◌, ◌≢◌, ◌≤◌, ⊥, true, false, IfOk, IfErr, OnOk, OnErr};
+ghost use Rattle.std.specs.Prelude.{◌≡◌, ◌≢◌, ◌≤◌, true, false, IfOk, IfErr, OnOk, OnErr};
 ghost use Rattle.residue_field.specs.Top.{ops_of_top};
 ghost use Rattle.drinfeld_mod.specs.Module.{IsModule};
 ghost use Rattle.kept_lists.specs.Pairs.{has_pair, with_pair, pairs_of};
@@ -54,17 +54,18 @@ fn told(
     asked: OfFull,
     list: &[Ore<TopElem>],
 ) -> Result<Answer, NoMemory>
-    requires full { IsItsFullList t.now phi.now psi.now list.now }
+    requires { IsItsFullList t.now phi.now psi.now list.now }
     ensures ok { IfOk result (λ a. IsTold t.now phi.now psi.now asked a) }
     ensures elem { IfOk result (λ a. gives_value t.now a ≡ true) }
     ensures counted { asked ≡ OfFull.Count → OnErr result ⊥ }
 {
     match asked {
         OfFull::Members => Ok(Answer::Members(copied_members(alloc, list)?)),
-        OfFull::Count => Ok(Answer::Count {
-            members: list.len() as u32,
-            degree: greatest_degree(list),
-        }),
+        OfFull::Count => {
+            let members = list.len() as u32;
+            let degree = greatest_degree(list);
+            Ok(Answer::Count { members, degree })
+        }
         OfFull::First => Ok(Answer::Isogenous(isogenous_from(alloc, t, phi, psi, list)?)),
     }
 }
@@ -100,11 +101,13 @@ pub(crate) fn of_full(
     kept.room()?;
     let list = hom_space::full(alloc, t, phi, psi)?;
     let answer = told(alloc, t, phi, psi, asked, &list)?;
-    kept.keep(KeptList {
+    let members = Items::from_vec(list);
+    let one = KeptList {
         source,
         target,
-        members: Items::from_vec(list),
-    })?;
+        members,
+    };
+    kept.keep(one)?;
     Ok(answer)
 }
 

@@ -1,7 +1,7 @@
 use Rattle.std.proofs.Common.{◌∙◌}
 use Rattle.statement_work.proofs.HeightTold.{ordinary_told, supersingular_told}
 use Rattle.statement_work.proofs.MotiveTold.{motive_told}
-use Rattle.statement_work.proofs.work.work.Goals as goal
+use Rattle.statement_work.proofs.work.plain_work.Goals as goal
 
 pub returns-in_ok-ordinary-in-Ordinary-clause-ok : goal.returns-in_ok-ordinary-in-Ordinary-clause-ok
 returns-in_ok-ordinary-in-Ordinary-clause-ok c =
