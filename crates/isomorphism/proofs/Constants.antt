@@ -1,5 +1,5 @@
 -- The members of the bounded list for the degree 0 are constants.
-use Rattle.std.proofs.Common.{◌≡◌, ℕ, ◌+◌, ◌-◌, ◌/◌, ◌%◌, ◌<◌, ◌≤◌, Option, None, Some, MatchOption, List, [], ◌∷◌, length, sym, ◌∙◌, ap, subst, ⊎_elim, arith}
+use Rattle.std.proofs.Common.{◌≡◌, ℕ, ◌+◌, ◌-◌, ◌/◌, ◌%◌, ◌<◌, ◌≤◌, true, Option, None, Some, MatchOption, List, [], ◌∷◌, length, sym, ◌∙◌, ap, subst, ⊎_elim, arith}
 use Rattle.std.proofs.lemmas.Bool.{and_parts, cases_lt}
 use Rattle.std.proofs.lemmas.List.{nil_from_length}
 use Rattle.ring_core.specs.Ring.{RingOps}
@@ -67,6 +67,16 @@ module _ {E B : Type 0} (r : RingOps E) (inv : E → Option E) (base : RingOps B
           first = is;
         }
 
-  pub answer : (o : Option E) → MatchOption o (length list ≡ 0) (λ c. (0 < length list) × (c ≡ coeff r (row_at list 0) 0)) → MatchOption o (HasNoIsomorphism r f phi psi) (IsFirstIsomorphism r base f phi psi)
+  -- what is read of the list, seen as a slice `v`
+  pub elems_of : (v : List (List E)) → v ≡ list → (i : ℕ) → i < length v → are_elems r (row_at v i) ≡ true
+  elems_of v same i low =
+      let in_list : i < length list = subst (λ w. i < length w) same low in
+      ap (λ w. are_elems r (row_at w i)) same ∙ (and_parts (are_elems r (row_at list i)) _ (p.members i in_list).hom.canonical).0
+
+  answer : (o : Option E) → MatchOption o (length list ≡ 0) (λ c. (0 < length list) × (c ≡ coeff r (row_at list 0) 0)) → MatchOption o (HasNoIsomorphism r f phi psi) (IsFirstIsomorphism r base f phi psi)
   answer None h = none h
   answer (Some c) h = subst (IsFirstIsomorphism r base f phi psi) (sym h.1) (first h.0)
+
+  pub answer_of : (v : List (List E)) → v ≡ list → (o : Option E) → MatchOption o (length v ≡ 0) (λ c. (0 < length v) × (c ≡ coeff r (row_at v 0) 0))
+      → MatchOption o (HasNoIsomorphism r f phi psi) (IsFirstIsomorphism r base f phi psi)
+  answer_of v same o h = answer o (subst (λ w. MatchOption o (length w ≡ 0) (λ c. (0 < length w) × (c ≡ coeff r (row_at w 0) 0))) same h)

@@ -2,10 +2,11 @@ ghost use Rattle.std.specs.Prelude.{◌≡◌, ℕ, ◌<◌, IfOk, MatchOption, 
 ghost use Rattle.ring_core.specs.Coeffs.{coeff, are_elems};
 ghost use Rattle.linear_algebra.specs.Linear.{row_at};
 ghost use Rattle.drinfeld_mod.specs.Module.{IsModule, constant_of};
+ghost use Rattle.hom_space.specs.Full.{IsFullList};
 ghost use Rattle.isomorphism.specs.Isomorphism.{IsFirstIsomorphism, HasNoIsomorphism};
 
 use drinfeld_mod::Module;
-use hom_space::bounded;
+use hom_space::{bounded, bounded_from};
 use ore_poly::Ore;
 use ring_core::lists::coeff_at;
 use ring_core::{E, Field, FrobField, NoMemory};
@@ -37,5 +38,24 @@ pub fn isomorphic<K: FrobField>(
         IfOk result (λ o. MatchOption o (HasNoIsomorphism r f phi.now psi.now) (IsFirstIsomorphism r (K.Base.ops (K.base_of k.now)) f phi.now psi.now)) }
 {
     let list = bounded(alloc, k, phi, psi, 0)?;
+    Ok(first_constant(k, &list))
+}
+
+/// What `isomorphic` gives, made from the full list of the homomorphisms from `phi` to `psi` in place of a linear system.
+pub fn isomorphic_from<K: FrobField>(
+    alloc: Global,
+    k: &K,
+    phi: &Module<E<K>>,
+    psi: &Module<E<K>>,
+    full: &[Ore<E<K>>],
+) -> Result<Option<E<K>>, NoMemory>
+    requires source { IsModule (K.ops k.now) phi.now }
+    requires target { IsModule (K.ops k.now) psi.now }
+    requires constants { constant_of (K.ops k.now) phi.now ≡ constant_of (K.ops k.now) psi.now }
+    requires full { IsFullList (K.ops k.now) (K.Base.ops (K.base_of k.now)) (K.frob_ops k.now) phi.now psi.now full.now }
+    ensures { let r = K.ops k.now in let f = K.frob_ops k.now in
+        IfOk result (λ o. MatchOption o (HasNoIsomorphism r f phi.now psi.now) (IsFirstIsomorphism r (K.Base.ops (K.base_of k.now)) f phi.now psi.now)) }
+{
+    let list = bounded_from(alloc, k, phi, psi, full, 0)?;
     Ok(first_constant(k, &list))
 }

@@ -4,5 +4,5 @@
 mod constant;
 mod isogeny;
 
-pub use constant::isomorphic;
-pub use isogeny::isogenous;
+pub use constant::{isomorphic, isomorphic_from};
+pub use isogeny::{isogenous, isogenous_from};

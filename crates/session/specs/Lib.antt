@@ -1,3 +1,4 @@
+pub mod Kept
 pub mod Of
 pub mod Outcome
 pub mod Refusals

@@ -1,6 +1,7 @@
 pub mod Asked
 pub mod Demands
 pub mod Fits
+pub mod Named
 pub mod Names
 pub mod Ranks
 pub mod Resolved

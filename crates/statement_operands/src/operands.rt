@@ -1,10 +1,11 @@
-ghost use Rattle.std.specs.Prelude.{◌≡◌, ◌≢◌, ◌≤◌, length, option_map, true, false, IfOk, IfErr, IfSome, OnOk};
+ghost use Rattle.std.specs.Prelude.{◌≡◌, ◌≢◌, ◌≤◌, length, option_map, None, true, false, not, IfOk, IfErr, IfSome, OnOk, OnErr};
 ghost use Rattle.ring_core.specs.Coeffs.{are_elems, is_canonical};
 ghost use Rattle.residue_field.specs.Top.{ops_of_top};
 ghost use Rattle.drinfeld_mod.specs.Module.{IsModule};
 ghost use Rattle.operand_value.specs.Operands.{list_values};
 ghost use Rattle.statement_operands.specs.Asked.{if_some, unknown_module, unknown_twisted, wrong_module, wrong_twisted, unknown_name, wrong_kind};
 ghost use Rattle.statement_operands.specs.Fits.{OperandFits, DemandsFit};
+ghost use Rattle.statement_operands.specs.Named.{is_name, are_names};
 ghost use Rattle.statement_operands.specs.Ranks.{unranked_list, unranked_module, unranked_operands};
 ghost use Rattle.statement_operands.specs.Resolved.{held, AreResolved};
 ghost use Rattle.statement_operands.specs.Seen.{seen};
@@ -114,6 +115,7 @@ fn module<'a>(
     ensures elem { IfOk result (λ h. IsModule (ops_of_top t.now) (held h)) }
     ensures ranked { IfOk result (λ h. unranked_module t.now phi.now ≡ false) }
     ensures stop { IfErr result (λ c. c ≢ Stop.NoMemory → (c ≡ Stop.Meaning MeaningKind.NoRank) × (unranked_module t.now phi.now ≡ true)) }
+    ensures named { is_name phi.now ≡ true → OnErr result ⊥ }
 {
     match phi {
         ModArg::Name(name) => match names.get(name) {
@@ -136,6 +138,7 @@ fn twisted_option<'a>(
     requires kind { if_some (wrong_twisted names.now) (option_map (λ m. m.now) u) ≡ false }
     ensures value { IfOk result (λ o. option_map held o ≡ option_map (twisted_value t.now names.now) (option_map (λ m. m.now) u.entry)) }
     ensures elem { IfOk result (λ o. IfSome o (λ h. is_canonical (ops_of_top t.now) (held h) ≡ true)) }
+    ensures none { u.entry ≡ None → OnErr result ⊥ }
 {
     match u {
         None => Ok(None),
@@ -158,6 +161,7 @@ fn module_option<'a>(
     ensures elem { IfOk result (λ o. IfSome o (λ h. IsModule (ops_of_top t.now) (held h))) }
     ensures ranked { OnOk result (if_some (unranked_module t.now) (option_map (λ m. m.now) phi.entry) ≡ false) }
     ensures stop { IfErr result (λ c. c ≢ Stop.NoMemory → (c ≡ Stop.Meaning MeaningKind.NoRank) × (if_some (unranked_module t.now) (option_map (λ m. m.now) phi.entry) ≡ true)) }
+    ensures named { if_some (λ m. not (is_name m)) (option_map (λ m. m.now) phi.entry) ≡ false → OnErr result ⊥ }
 {
     match phi {
         None => Ok(None),
@@ -166,7 +170,8 @@ fn module_option<'a>(
 }
 
 /// The values of the operands of a form, or what refuses a list among them. The twisted polynomials
-/// come first, so that a size that one of them passes goes before a list that is no module.
+/// come first, so that a size that one of them passes goes before a list that is no module. Names that are modules take
+/// no memory.
 pub fn resolve<'a>(
     alloc: Global,
     t: &Tower,
@@ -180,6 +185,7 @@ pub fn resolve<'a>(
     ensures resolved { IfOk result (λ o. AreResolved t.now names.now (seen d.now) o) }
     ensures ranked { OnOk result (unranked_operands t.now (seen d.now) ≡ false) }
     ensures stop { IfErr result (λ c. c ≢ Stop.NoMemory → (c ≡ Stop.Meaning MeaningKind.NoRank) × (unranked_operands t.now (seen d.now) ≡ true)) }
+    ensures named { are_names (seen d.now) ≡ true → OnErr result ⊥ }
 {
     let u = twisted_option(alloc, t, names, d.u)?;
     let v = twisted_option(alloc, t, names, d.v)?;

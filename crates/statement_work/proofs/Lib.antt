@@ -1,12 +1,15 @@
 pub mod DivisionsExist
 pub mod FewMembers
+pub mod FullKept
 pub mod HeightTold
 pub mod InvariantsExist
+pub mod Keeping
 pub mod ListsExist
 pub mod ListsOnce
 pub mod MotiveTold
 pub mod MultiplesExist
 pub mod OneAnswer
+pub mod OneConstant
 pub mod QuotientsDecided
 pub mod RanksFirst
 pub mod Refused

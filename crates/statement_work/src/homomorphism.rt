@@ -1,5 +1,5 @@
 //! Homomorphisms of two modules, whose constants are to be equal.
-ghost use Rattle.std.specs.Prelude.{◌≡◌, ◌≢◌, ◌↔◌, IsTrue, true, false, not, IfOk, IfErr};
+ghost use Rattle.std.specs.Prelude.{◌≡◌, ◌≢◌, ◌↔◌, IsTrue, true, false, IfOk, IfErr, OnOk};
 ghost use Rattle.ring_core.specs.Coeffs.{is_canonical};
 ghost use Rattle.residue_field.specs.Top.{ops_of_top, frob_of_top};
 ghost use Rattle.drinfeld_mod.specs.Module.{IsModule, constant_of};
@@ -18,16 +18,25 @@ use ring_core::{E, Field};
 use statement_operands::{MeaningKind, Stop};
 use std::alloc::Global;
 
-/// Whether the constants of two modules are equal.
-pub(crate) fn have_one_constant<K: Field>(field: &K, phi: &Module<E<K>>, psi: &Module<E<K>>) -> bool
+/// Refuses two modules whose constants differ.
+pub(crate) fn same_constant<K: Field>(
+    field: &K,
+    phi: &Module<E<K>>,
+    psi: &Module<E<K>>,
+) -> Result<(), Stop>
     requires source { IsModule (K.ops field.now) phi.now }
     requires target { IsModule (K.ops field.now) psi.now }
-    ensures told { not result ≡ constants_differ (K.ops field.now) phi.now psi.now }
-    ensures equal { result ≡ true → constant_of (K.ops field.now) phi.now ≡ constant_of (K.ops field.now) psi.now }
+    ensures told { OnOk result (constants_differ (K.ops field.now) phi.now psi.now ≡ false) }
+    ensures equal { OnOk result (constant_of (K.ops field.now) phi.now ≡ constant_of (K.ops field.now) psi.now) }
+    ensures stop { IfErr result (λ c. (constants_differ (K.ops field.now) phi.now psi.now ≡ true) × (c ≡ Stop.Meaning MeaningKind.OtherConstant)) }
 {
     let source = coeff_at(field, phi.as_slice(), 0);
     let target = coeff_at(field, psi.as_slice(), 0);
-    field.equal(source, target)
+    if field.equal(source, target) {
+        Ok(())
+    } else {
+        Err(Stop::Meaning(MeaningKind::OtherConstant))
+    }
 }
 
 /// Whether `u` is a homomorphism from `phi` to `psi`, whose constants are to be equal.
@@ -45,9 +54,7 @@ pub(crate) fn check(
     ensures elem { IfOk result (λ a. gives_value t.now a ≡ true) }
     ensures stop { IfErr result (λ c. c ≢ Stop.NoMemory → (constants_differ (ops_of_top t.now) phi.now psi.now ≡ true) × (c ≡ Stop.Meaning MeaningKind.OtherConstant)) }
 {
-    if !have_one_constant(t, phi, psi) {
-        return Err(Stop::Meaning(MeaningKind::OtherConstant));
-    }
+    same_constant(t, phi, psi)?;
     let yes = is_homomorphism(alloc, t, phi, psi, u)?;
     Ok(Answer::Truth(yes))
 }

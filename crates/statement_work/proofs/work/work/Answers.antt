@@ -1,19 +1,20 @@
-use Rattle.std.proofs.Common.{◌∙◌}
-use Rattle.statement_work.proofs.HeightTold.{ordinary_told, supersingular_told}
-use Rattle.statement_work.proofs.MotiveTold.{motive_told}
+use Rattle.kept_lists.specs.Pairs.{pairs_of}
+use Rattle.statement_work.proofs.Keeping.{plain_form, plain_keeps, leaves_same, plain_count}
 use Rattle.statement_work.proofs.work.work.Goals as goal
 
-pub returns-in_ok-ordinary-in-Ordinary-clause-ok : goal.returns-in_ok-ordinary-in-Ordinary-clause-ok
-returns-in_ok-ordinary-in-Ordinary-clause-ok c =
-    ordinary_told c.args.t.now c.args.names.now c.in-Ordinary.phi _ _ c.args.form.now c.in-Ordinary.is c.in_ok-ordinary-in-Ordinary.ensures.ok
-    (c.given-in-Ordinary.ensures ∙ c.requires.resolved.phi_is) c.requires.ranked
+pub plain_work-requires-clause-plain : goal.plain_work-requires-clause-plain
+plain_work-requires-clause-plain c = plain_form c.args.form.now c.in_default.not-Isogenous c.in_default.not-Full c.in_default.not-Fullsize
 
-pub returns-in_ok-supersingular-in-Supersingular-clause-ok : goal.returns-in_ok-supersingular-in-Supersingular-clause-ok
-returns-in_ok-supersingular-in-Supersingular-clause-ok c =
-    supersingular_told c.args.t.now c.args.names.now c.in-Supersingular.phi _ _ c.args.form.now c.in-Supersingular.is c.in_ok-supersingular-in-Supersingular.ensures.ok
-    (c.given-in-Supersingular.ensures ∙ c.requires.resolved.phi_is) c.requires.ranked
-
-pub returns-in_ok-motive-in-Motive-clause-ok : goal.returns-in_ok-motive-in-Motive-clause-ok
-returns-in_ok-motive-in-Motive-clause-ok c =
-    motive_told c.args.t.now _ c.args.names.now _ _ _ _ c.args.form.now c.in-Motive.is c.in_ok-motive-in-Motive.ensures.ok
-    (c.given-in-Motive.ensures ∙ c.requires.resolved.phi_is) (c.given-in-Motive-2.ensures ∙ c.requires.resolved.u_is) c.requires.ranked
+pub returns-in_default : goal.returns-in_default
+returns-in_default c =
+    let plain = plain_form c.args.form.now c.in_default.not-Isogenous c.in_default.not-Full c.in_default.not-Fullsize in
+    let pairs = pairs_of c.args.kept.now in
+    record {
+      ok = c.plain_work.ensures.ok;
+      elem = c.plain_work.ensures.elem;
+      stop = c.plain_work.ensures.stop;
+      lists = c.requires.lists;
+      pairs = plain_keeps c.args.t.now c.args.names.now c.args.form.now pairs c.plain_work.result plain;
+      same = leaves_same pairs c.plain_work.result;
+      counted = λ h. absurd (plain_count c.args.t.now c.args.names.now c.args.form.now pairs plain h);
+    }
