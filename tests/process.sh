@@ -47,6 +47,9 @@ expect 'no input' 0 '' ''
 run < <(printf 'base 2\0\377\n')
 expect 'bytes that are no text' 3 '' $'line 1: not a statement\n'
 
+run < <(printf '%s' "${script//$'\n'/$'\r\n'}")
+expect 'carriage returns' 0 "$answers" ''
+
 run < <(printf 'base 2\r\nover 2 z^2+z+1\r\ncheck [z, 1] [z, z] 1 # \377\r\n\r\nrank t\r\n')
 expect 'carriage returns, and a name that is none' 3 '' $'line 5: not a statement\n'
 
@@ -62,11 +65,12 @@ expect 'a flag twice' 2 '' $'words refused\n'
 run --echo < <(printf 'base 2 # two\r\n')
 expect 'an echoed line' 0 $'> base 2 # two\nq = 2\n' ''
 
-run --sample 0 <&-
-[[ $status -eq 0 && $(wc -l <"$folder/output") -eq 26 && $(sed -n 3p "$folder/output") == 'm1 = [z, z^5+z^4+z^3+z^2, z^6+z^2+z+1]' ]] || fail "the sample: status $status, wrote '$(<"$folder/output")'"
-cp "$folder/output" "$folder/sample"
-run --sample 0 <&-
-cmp -s "$folder/output" "$folder/sample" || fail 'the sample: another output at the second run'
+# The counts of the sample were found apart from the program, by a plain search: in coordinates over F_2 the endomorphisms up
+# to degree 40 are the kernel of a matrix, and a member is the one of least degree for each lead modulo 64.
+for words in '--sample 0' '--sample 0' '--sample=0'; do
+    run $words <&-
+    expect "the sample, $words" 0 "$(<tests/sample-of-0.expected)"$'\n' ''
+done
 
 run $'\377' <<<"$script"
 expect 'a word that is no text' 10 '' ''
