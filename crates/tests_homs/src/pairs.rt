@@ -5,6 +5,7 @@ use super::all_pairs::push;
 use super::lists::behind_zeros;
 use super::modules::{bounded_between, full_between, isogeny_between};
 use ore_poly::Ore;
+use ring_core::lists::single_list;
 use ring_core::{E, Field, FrobField};
 use std::alloc::Global;
 use std::process::Abort;
@@ -37,7 +38,7 @@ const OVER_FOUR: [Pair; 10] = [
 const OVER_EIGHT: [Pair; 10] = [
     ("6 5 4", "6 5 4", "1"),
     ("4 7 1 6", "4 7 1 6", "1"),
-    ("1 0 0 1", "1 0 0 1", "7 5 3"),
+    ("1 1 1", "1 1 1", "0 1"),
     ("6 5 4", "6 2 2", "7"),
     ("6 7 2", "6 2 5", "5 2"),
     ("4 7 1 6", "4 3 0 4", "7 3 1"),
@@ -81,10 +82,11 @@ fn push_products<K: FrobField>(
     len: usize,
     products: &mut Vec<Vec<E<K>>>,
 ) -> Result<(), Fail> {
+    let one = single_list(alloc, field.one())?;
     for e in 0..len {
         let moved = e.saturating_mul(field.degree());
         if moved.saturating_add(u.len()) <= len {
-            let power = behind_zeros(alloc, field, moved, &[field.one()])?;
+            let power = behind_zeros(alloc, field, moved, &one)?;
             push(products, plain_product(alloc, field, &power, u)?)?;
         }
     }
