@@ -1,6 +1,7 @@
 pub mod Decided
 pub mod Existence
 pub mod Granted
+pub mod Keeping
 pub mod Monic
 pub mod Named
 pub mod Operands

@@ -13,3 +13,8 @@ some_name (Some name) key v ns e = ap (λ k. added k v ns) (same_some e)
 pub no_name : (gives : Option Name) (v : Option Value) (ns : List (List ℕ × Value)) → None ≡ option_map (λ n. n.bytes) gives → ns ≡ with_name gives v ns
 no_name None v ns e = refl
 no_name (Some name) v ns e = absurd (none-some name.bytes e)
+
+-- a name that is given
+pub given_name : (gives : Option Name) (key : List ℕ) → Some key ≡ option_map (λ n. n.bytes) gives → (name : Name) × (gives ≡ Some name)
+given_name None key e = absurd (none-some key (sym e))
+given_name (Some name) key e = (name, refl)

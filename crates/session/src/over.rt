@@ -1,4 +1,4 @@
-ghost use Rattle.std.specs.Prelude.{◌≡◌, ◌≢◌, ⊥, None, Some, true, false, option_map, IfOk, IfErr, OnOk, OnErr};
+ghost use Rattle.std.specs.Prelude.{◌≡◌, ◌≢◌, None, Some, true, false, option_map, IfOk, IfErr, OnOk, OnErr};
 ghost use Rattle.kept_lists.specs.Pairs.{pairs_of};
 ghost use Rattle.script_parse.specs.Version.{version_1};
 ghost use Rattle.script_parse.specs.Within.{IsWithin};

@@ -1,4 +1,4 @@
-ghost use Rattle.std.specs.Prelude.{◌≡◌, ⊥, [], true, length, OnErr};
+ghost use Rattle.std.specs.Prelude.{◌≡◌, [], true, length, OnErr};
 ghost use Rattle.script_parse.specs.Version.{version_1};
 ghost use Rattle.script_parse.specs.Within.{IsWithin};
 ghost use Rattle.answer.specs.Texts.{field_of};
@@ -67,7 +67,14 @@ impl Session {
             None => {}
         }
         match &self.field {
-            FieldState::Top(t) => answer_over(self.alloc, t, &mut self.names, &mut self.kept, form, &d),
+            FieldState::Top(t) => answer_over(
+                self.alloc,
+                t,
+                &mut self.names,
+                &mut self.kept,
+                form,
+                &d,
+            ),
             _ => set_field(self.alloc, &mut self.field, form),
         }
     }
