@@ -2,7 +2,7 @@
 ghost use Rattle.std.specs.Prelude.{◌≡◌};
 ghost use Rattle.ring_core.specs.Ring.{IsElem};
 
-use super::no_memory;
+use super::{invalid, no_memory};
 use field_tower::{BaseField, Code, Tower, WIDTH};
 use ring_core::lists::all_elems;
 use ring_core::{E, Field, FrobField};
@@ -12,7 +12,7 @@ use std::time::{Duration, Instant};
 /// How many calls are made of what takes less than a microsecond.
 const CALLS: u32 = 1_000_000;
 
-/// A top field of degree `WIDTH`, and what it took to make it.
+/// A top field, and what it took to make it.
 #[derive(Drop)]
 pub(super) struct Made {
     pub(super) tower: Tower,
@@ -48,7 +48,7 @@ fn frobenius_powers<K: FrobField>(k: &K, c: E<K>) -> E<K>
     x
 }
 
-/// `z^WIDTH + c` and the powers of `z` between them, lowest coefficient first.
+/// `c` and these powers of `z`, lowest coefficient first.
 fn polynomial(powers: &[usize], c: Code) -> [Code; WIDTH + 1] {
     let mut list = [0; WIDTH + 1];
     list[0] = c;
@@ -57,18 +57,18 @@ fn polynomial(powers: &[usize], c: Code) -> [Code; WIDTH + 1] {
             *place = 1;
         }
     }
-    list[WIDTH] = 1;
     list
 }
 
-/// The top field modulo the first such polynomial that is accepted, for codes `c` from 0 up, over the
-/// residues modulo 2 and this modulus of degree `s`.
+/// The top field modulo the first polynomial `c` and these powers of `z` that is accepted, for codes `c` from 0 up, over
+/// the residues modulo 2 and this modulus of degree `s`. The first of the powers is the highest.
 pub(super) fn first_top(
     rt: &HostRuntime,
     s: u32,
     modulus: &[u32],
     powers: &[usize],
 ) -> io::Result<Made> {
+    let n = powers.first().copied().unwrap_or(0).min(WIDTH);
     let start = Instant::now(rt)?;
     let made = BaseField::make(rt.alloc(), 2, s, modulus);
     let base_time = start.elapsed(rt)?;
@@ -78,11 +78,12 @@ pub(super) fn first_top(
     let mut refused = Duration::ZERO;
     for c in 0..base.q() {
         let list = polynomial(powers, c as Code);
-        if !all_elems(&base, &list) {
+        let top = &list[..n + 1];
+        if !all_elems(&base, top) {
             break;
         }
         let start = Instant::now(rt)?;
-        let made = Tower::make(rt.alloc(), base, WIDTH as u32, &list);
+        let made = Tower::make(rt.alloc(), base, n as u32, top);
         let time = start.elapsed(rt)?;
         match made {
             Ok(tower) => {
@@ -99,7 +100,7 @@ pub(super) fn first_top(
             }
         }
     }
-    Err(io::Error::from(io::ErrorKind::InvalidData))
+    Err(invalid())
 }
 
 /// What the call takes that refuses `a^s` as the modulus of a base over two elements.
@@ -114,17 +115,16 @@ fn refused_base(rt: &HostRuntime, s: u32, modulus: &[u32]) -> io::Result<Duratio
     let made = BaseField::make(rt.alloc(), 2, s, &list);
     let time = start.elapsed(rt)?;
     if made.is_ok() && 1 < s {
-        return Err(io::Error::from(io::ErrorKind::InvalidData));
+        return Err(invalid());
     }
     Ok(time)
 }
 
-/// Prints the times of the calls of a top field of degree `WIDTH` over the residues modulo 2 and this
-/// modulus of degree `s`.
+/// Prints the times of the calls of a top field over the residues modulo 2 and this modulus of degree `s`.
 fn print_times(rt: &HostRuntime, s: u32, modulus: &[u32], powers: &[usize]) -> io::Result<()> {
     let made = first_top(rt, s, modulus, powers)?;
     let k = &made.tower;
-    println!(rt; "{} elements, degree {WIDTH}", k.base().q())?;
+    println!(rt; "{} elements, degree {}", k.base().q(), k.degree())?;
     let refused = refused_base(rt, s, modulus)?;
     println!(rt;
         "  BaseField::make accepted {} us, modulo a^{s} {} us",
@@ -138,7 +138,7 @@ fn print_times(rt: &HostRuntime, s: u32, modulus: &[u32], powers: &[usize]) -> i
     )?;
     let z = k.letter();
     if !k.is_elem(z) {
-        return Err(io::Error::from(io::ErrorKind::InvalidData));
+        return Err(invalid());
     }
     let start = Instant::now(rt)?;
     let product = products(k, z);
@@ -165,9 +165,9 @@ fn print_times(rt: &HostRuntime, s: u32, modulus: &[u32], powers: &[usize]) -> i
     println!(rt; "  equal: {}", k.equal(product, power))
 }
 
-/// Measures fields of degree `WIDTH` over 2 and over 256 elements: modulo `z^12 + z^3 + c`, and modulo
+/// Measures fields of the largest degree over 2 and over 256 elements: modulo `z^12 + z^3 + c`, and modulo
 /// `z^12 + z^3 + z + c`.
 pub(super) fn print_all(rt: &HostRuntime, bits: &[u32], bytes: &[u32]) -> io::Result<()> {
-    print_times(rt, 1, bits, &[3])?;
-    print_times(rt, 8, bytes, &[3, 1])
+    print_times(rt, 1, bits, &[12, 3])?;
+    print_times(rt, 8, bytes, &[12, 3, 1])
 }

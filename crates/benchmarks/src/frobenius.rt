@@ -1,45 +1,20 @@
-//! What the least relation of Frobenius takes, for modules of rank 2 and 8 over fields of degree `WIDTH`.
+//! What the least relation of Frobenius takes, for modules of rank 2 and 8 over fields of the largest degree.
 ghost use Rattle.std.specs.Prelude.{◌≡◌};
 ghost use Rattle.ring_core.specs.Ring.{IsElem};
 
 use super::fields::first_top;
-use super::no_memory;
-use drinfeld_mod::make;
-use field_tower::WIDTH;
+use super::modules::module;
+use super::{invalid, no_memory};
 use frobenius_rel::least_relation;
-use ring_core::lists::all_elems;
 use ring_core::{E, Field, FrobField};
 use std::io;
 use std::time::Instant;
-
-fn invalid() -> io::Error {
-    io::Error::from(io::ErrorKind::InvalidData)
-}
-
-/// `c`, and then elements of which each is one more than `c` times the square of the one before it.
-fn coefficients<K: Field>(rt: &HostRuntime, k: &K, c: E<K>, count: usize) -> io::Result<Vec<E<K>>>
-    requires { IsElem (K.ops k.now) c }
-{
-    let mut list = Vec::new(rt.alloc());
-    let mut x = c;
-    for _i in 0..count {
-        list.push(x)?;
-        x = k.add(k.mul(k.mul(x, x), c), k.one());
-    }
-    Ok(list)
-}
 
 /// Prints the time that the least relation of the module with `count` such coefficients takes.
 fn print_time<K: FrobField>(rt: &HostRuntime, k: &K, c: E<K>, count: usize) -> io::Result<()>
     requires { IsElem (K.ops k.now) c }
 {
-    let list = coefficients(rt, k, c, count)?;
-    if !all_elems(k, &list) {
-        return Err(invalid());
-    }
-    let Ok(phi) = make(rt.alloc(), k, &list) else {
-        return Err(invalid());
-    };
+    let phi = module(rt, k, c, count)?;
     let start = Instant::now(rt)?;
     let made = least_relation(rt.alloc(), k, &phi);
     let time = start.elapsed(rt)?;
@@ -54,12 +29,12 @@ fn print_time<K: FrobField>(rt: &HostRuntime, k: &K, c: E<K>, count: usize) -> i
     )
 }
 
-/// Measures modules over the top field of degree `WIDTH` modulo `z^WIDTH + c` and these powers of `z`, over the
-/// residues modulo 2 and this modulus of degree `s`. The constant is the letter.
+/// Measures modules over the top field modulo `c` and these powers of `z`, over the residues modulo 2 and this modulus of
+/// degree `s`. The constant is the letter.
 fn print_field(rt: &HostRuntime, s: u32, modulus: &[u32], powers: &[usize]) -> io::Result<()> {
     let made = first_top(rt, s, modulus, powers)?;
     let k = &made.tower;
-    println!(rt; "{} elements, degree {WIDTH}", k.base().q())?;
+    println!(rt; "{} elements, degree {}", k.base().q(), k.degree())?;
     let z = k.letter();
     if !k.is_elem(z) {
         return Err(invalid());
@@ -70,6 +45,6 @@ fn print_field(rt: &HostRuntime, s: u32, modulus: &[u32], powers: &[usize]) -> i
 
 /// Measures the fields of `fields::print_all`.
 pub(super) fn print_all(rt: &HostRuntime, bits: &[u32], bytes: &[u32]) -> io::Result<()> {
-    print_field(rt, 1, bits, &[3])?;
-    print_field(rt, 8, bytes, &[3, 1])
+    print_field(rt, 1, bits, &[12, 3])?;
+    print_field(rt, 8, bytes, &[12, 3, 1])
 }

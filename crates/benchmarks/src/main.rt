@@ -1,8 +1,9 @@
 //! How long the kernel of a linear system takes, and how many products of the field it makes; what the
-//! calls of fields take; what the least relation of Frobenius takes; and how long the reader of scripts takes.
+//! calls of fields take; what the least relation of Frobenius, the height and an image of a module take; how many row
+//! operations the relations of rows of polynomials take; and how long the reader of scripts takes.
 //! With the word `linear` two large systems are measured, with `fields` the fields, with `frobenius` four
-//! modules, with `parse` the script on standard input; with no word small systems and products, whose counts
-//! are compared with a bound.
+//! modules, with `modules` one of rank 8, with `reductions` the rows of which full lists are made, with `parse` the
+//! script on standard input; with no word small systems and products, whose counts are compared with a bound.
 #![tactic(auto)]
 
 ghost use Rattle.std.specs.Prelude.{◌≡◌, ◌<◌, true};
@@ -10,7 +11,9 @@ ghost use Rattle.linear_algebra.specs.Linear.{are_rows};
 
 mod fields;
 mod frobenius;
+mod modules;
 mod random;
+mod reductions;
 mod scripts;
 
 use field_tower::{BaseField, multiply};
@@ -44,6 +47,10 @@ impl Cost {
     fn is_within(&self) -> bool {
         self.products <= self.bound()
     }
+}
+
+fn invalid() -> io::Error {
+    io::Error::from(io::ErrorKind::InvalidData)
 }
 
 fn no_memory() -> io::Error {
@@ -87,7 +94,7 @@ fn residue_products<K: Field>(rt: &HostRuntime, field: &K, c: E<K>, n: usize) ->
         || !all_elems(&counting_field, &a)
         || !all_elems(&counting_field, &out)
     {
-        return Err(io::Error::from(io::ErrorKind::InvalidData));
+        return Err(invalid());
     }
     multiply(&counting_field, &modulus, &a, &a, &mut out);
     Ok(counting_field.products())
@@ -112,7 +119,7 @@ fn cost_of(rt: &HostRuntime, s: u32, modulus: &[u32], sizes: [usize; 3]) -> io::
         return Err(no_memory());
     };
     if rows.len() != shape.rows {
-        return Err(io::Error::from(io::ErrorKind::InvalidData));
+        return Err(invalid());
     }
     measure(rt, &field, &rows)
 }
@@ -178,6 +185,14 @@ fn run(rt: &HostRuntime) -> io::Result<bool> {
         }
         Some(word) if word.as_str() == "frobenius" => {
             frobenius::print_all(rt, &BITS, &BYTES)?;
+            Ok(true)
+        }
+        Some(word) if word.as_str() == "modules" => {
+            modules::print_all(rt, &BITS)?;
+            Ok(true)
+        }
+        Some(word) if word.as_str() == "reductions" => {
+            reductions::print_all(rt, &BITS)?;
             Ok(true)
         }
         Some(word) if word.as_str() == "parse" => {

@@ -1,5 +1,6 @@
 //! How long the reader of scripts takes.
 
+use super::invalid;
 use script_parse::{Limits, parse};
 use std::io;
 use std::time::Instant;
@@ -9,7 +10,7 @@ use text_io::{StdSource, read_limited};
 pub(super) fn print_parse(rt: &HostRuntime) -> io::Result<()> {
     let mut input = StdSource::new(rt.stdin());
     let Ok(bytes) = read_limited(rt.alloc(), &mut input, Limits::version_1().script) else {
-        return Err(io::Error::from(io::ErrorKind::InvalidData));
+        return Err(invalid());
     };
     let start = Instant::now(rt)?;
     let answer = parse(rt.alloc(), &bytes);

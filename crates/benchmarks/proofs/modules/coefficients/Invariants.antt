@@ -1,5 +1,5 @@
 use Rattle.ring_core.specs.Ring.{IsElem}
-use Rattle.benchmarks.proofs.frobenius.coefficients.Given as goal
+use Rattle.benchmarks.proofs.modules.coefficients.Given as goal
 
 abbrev pub invariant-loop-i : goal.invariant-loop-i
 invariant-loop-i g l = IsElem (g.K.Field.ops l.k) l.x
