@@ -1,9 +1,8 @@
 -- The full lists that a session keeps, and what statements do to them.
-use Rattle.std.proofs.Common.{◌≡◌, ℕ, ◌<◌, ◌≤◌, ◌-◌, ◌&&◌, ◌||◌, not, true, false, Option, Some, None, is_some, Result, Ok, Err, List, [], ◌∷◌, length, refl, sym, ap, ap₂, subst, ◌∙◌, arith}
+use Rattle.std.proofs.Common.{◌≡◌, ℕ, ◌<◌, ◌≤◌, ◌-◌, ◌||◌, not, true, false, Option, Some, None, is_some, Result, Ok, Err, List, [], ◌∷◌, length, refl, sym, ap, ap₂, ◌∙◌, arith}
 use Rattle.std.specs.Prelude.{OnOk, OnErr}
 use Rattle.std.specs.Option.{option_or}
 use Rattle.std.proofs.lemmas.Bool.{false≢true, and_parts}
-use Rattle.std.proofs.lemmas.List.Elements.{All-nil}
 use Rattle.ring_core.specs.Ring.{RingOps}
 use Rattle.ring_core.specs.Coeffs.{same_lists}
 use Rattle.residue_field.specs.declared.TopElem.{TopElem}
@@ -11,8 +10,7 @@ use Rattle.residue_field.specs.Base.{ops_of}
 use Rattle.residue_field.specs.Top.{Top, ops_of_top, frob_of_top}
 use Rattle.drinfeld_mod.specs.Module.{IsModule}
 use Rattle.kept_lists.specs.declared.KeptList.{KeptList}
-use Rattle.kept_lists.specs.Kept.{IsKeptList}
-use Rattle.kept_lists.specs.Pairs.{has_pair, pairs_of}
+use Rattle.kept_lists.specs.Pairs.{pairs_of}
 use Rattle.kept_lists.proofs.There.{there}
 use Rattle.script_lang.specs.declared.ModArg.{ModArg}
 use Rattle.script_lang.specs.declared.ModArg.TheVariants as module_operand
@@ -28,40 +26,19 @@ use Rattle.statement_operands.specs.declared.MeaningKind.TheVariants as meaning
 use Rattle.statement_operands.specs.declared.Stop.{Stop}
 use Rattle.statement_operands.specs.Asked.{unknown_module, wrong_module}
 use Rattle.statement_operands.specs.Demands.{demands}
-use Rattle.statement_operands.specs.Named.{is_name}
 use Rattle.statement_operands.specs.Names.{value_of, is_twisted}
 use Rattle.statement_operands.specs.Values.{as_module, module_value}
-use Rattle.statement_work.specs.Keeps.{AreItsFullLists, pairs_after, is_kept_count}
+use Rattle.statement_work.specs.Keeps.{pairs_after}
 use Rattle.statement_work.specs.Refusals.{when}
-use Rattle.session.specs.Kept.{AreOver, AreKeptOver, pairs_over, pairs_next, counts_over, is_count_of_kept}
+use Rattle.session.specs.Kept.{AreKeptOver, pairs_over, pairs_next, is_count_of_kept}
 use Rattle.session.specs.State.{State}
 use Rattle.session.specs.Refusals.{name_refusal}
-
--- Without a top field there are no kept lists, and none are full lists over every field.
-pub kept_set : (k m : FieldState) (kept : List (KeptList TopElem)) → top_of k ≡ None → AreKeptOver k kept → AreKeptOver m kept
-kept_set k m kept low full =
-    let none : kept ≡ [] = subst (λ o. AreOver o kept) low full in
-    subst (AreKeptOver m) (sym none) (over_any (top_of m))
-  where
-    over_any : (o : Option Top) → AreOver o []
-    over_any None = refl
-    over_any (Some t) = All-nil (IsKeptList (ops_of_top t) (ops_of t.base) (frob_of_top t))
-
-pub pairs_low : (st : State) (f : Form) (r : Result Answer Stop) (pairs : List (List TopElem × List TopElem)) → top_of st.field ≡ None → pairs ≡ pairs_next st f r pairs
-pairs_low st f (Ok a) pairs low = sym (ap (λ o. pairs_over o st f pairs) low)
-pairs_low st f (Err c) pairs low = refl
-
-pub count_low : (st : State) (f : Form) (pairs : List (List TopElem × List TopElem)) → top_of st.field ≡ None → is_count_of_kept st f pairs ≡ true → ⊥
-count_low st f pairs low h = false≢true (sym (ap (λ o. counts_over o st f pairs) low) ∙ h)
 
 -- Over a top field they are those of the work.
 pub pairs_top : (st : State) (f : Form) (t : Top) (r : Result Answer Stop) (pairs next : List (List TopElem × List TopElem)) → st.field ≡ field.Top t
     → OnOk r (next ≡ pairs_after t st.names f pairs) → OnErr r (next ≡ pairs) → next ≡ pairs_next st f r pairs
 pairs_top st f t (Ok a) pairs next is ok same = ok ∙ sym (ap (λ o. pairs_over o st f pairs) (ap top_of is))
 pairs_top st f t (Err c) pairs next is ok same = same
-
-pub count_top : (st : State) (f : Form) (t : Top) (pairs : List (List TopElem × List TopElem)) → st.field ≡ field.Top t → is_count_of_kept st f pairs ≡ true → is_kept_count t st.names f pairs ≡ true
-count_top st f t pairs is h = sym (ap (λ o. counts_over o st f pairs) (ap top_of is)) ∙ h
 
 -- A name whose value equals a kept module is that of a module.
 not_same : {E : Type 0} (r : RingOps E) (u : List E) → 0 < length u → same_lists r u [] ≡ true → ⊥

@@ -1,5 +1,5 @@
 -- What a statement does, from what its parts do.
-use Rattle.std.proofs.Common.{◌≡◌, ◌≢◌, ℕ, Bool, true, false, Option, Some, None, option_map, Result, Ok, Err, List, [], ◌∷◌, refl, sym, ap, subst, ◌∙◌}
+use Rattle.std.proofs.Common.{◌≡◌, ◌≢◌, ℕ, Bool, true, false, Option, Some, None, option_map, Result, Ok, Err, List, refl, sym, ap, subst, ◌∙◌}
 use Rattle.std.specs.Prelude.{IfOk, IfErr, OnErr}
 use Rattle.std.specs.Option.{option_or}
 use Rattle.std.proofs.lemmas.Bool.{false≢true}
@@ -19,12 +19,12 @@ use Rattle.statement_operands.specs.declared.Stop.{Stop}
 use Rattle.statement_operands.specs.declared.Stop.TheVariants as stop
 use Rattle.statement_operands.specs.Demands.{demands}
 use Rattle.statement_operands.specs.Resolved.{AreOperands}
-use Rattle.statement_work.specs.Refusals.{is_nil, work_refusal}
+use Rattle.statement_work.specs.Refusals.{work_refusal}
 use Rattle.statement_work.specs.Results.{named_value}
 use Rattle.statement_work.specs.Works.{Works}
 use Rattle.session.specs.State.{State}
-use Rattle.session.specs.Refusals.{field_refusal, name_refusal, modulus_refusal, refusal_over, value_refusal, refusal}
-use Rattle.session.specs.Sound.{sound_over, is_sound, IsBaseSet, OverBase}
+use Rattle.session.specs.Refusals.{field_refusal, name_refusal, refusal_over, value_refusal, refusal}
+use Rattle.session.specs.Sound.{IsBaseSet, OverBase}
 use Rattle.session.specs.Steps.{IsReducible, StopsAfter, Stops, SetsBase, SetsTop, SetsField, GivesOver, with_name, Does}
 
 -- Where the names meet what a form asks, the values decide.
@@ -85,32 +85,6 @@ pub needs_top : (n : Need) (t : Top) → field_refusal n (field.Top t) ≡ None 
 needs_top need.NoBase t h = absurd (none-some _ (sym h))
 needs_top need.NoTop t h = absurd (none-some _ (sym h))
 needs_top need.ATop t h = refl
-
--- Without a top field there are no names, and no names are sound over every field.
-pub sound_set : (k m : FieldState) (ns : List (List ℕ × Value)) → top_of k ≡ None → is_sound k ns ≡ true → is_sound m ns ≡ true
-sound_set k m ns low sound = over_any m ns (subst (λ o. sound_over o ns ≡ true) low sound)
-  where
-    over_any : (m : FieldState) (ns : List (List ℕ × Value)) → is_nil ns ≡ true → is_sound m ns ≡ true
-    over_any field.Nothing ns e = e
-    over_any (field.Base k) ns e = e
-    over_any (field.Top t) [] e = refl
-    over_any (field.Top t) (x ∷ xs) e = absurd (false≢true e)
-
-value_low : (k : FieldState) (ns : List (List ℕ × Value)) (f : Form) → top_of k ≡ None → value_refusal k ns f ≡ modulus_refusal k f
-value_low k ns f low = ap (λ o. refusal_over o k ns f) low
-
--- A form that sets a field does what its setting does.
-pub set_does : (st : State) (f : Form) (r : Result Answer Stop) (k : FieldState) → top_of st.field ≡ None → name_refusal st (demands f) ≡ None
-    → IfOk r (λ a. modulus_refusal st.field f ≡ None) → IfOk r (λ a. SetsField st.field f a k) → OnErr r (k ≡ st.field)
-    → IfErr r (λ c. c ≢ stop.NoMemory → StopsAfter (modulus_refusal st.field f) c (IsReducible st.field f c))
-    → Does st f r (record { field = k; names = st.names })
-set_does st f (Ok a) k low free none sets same stops =
-    let is = refusal_is st f free ∙ value_low st.field st.names f low in
-    (is ∙ none, subst (λ o. GivesOver o st f a (record { field = k; names = st.names })) (sym low) (k, sets, refl))
-set_does st f (Err c) k low free none sets same stops =
-    let is = refusal_is st f free ∙ value_low st.field st.names f low in
-    does_err st f c _ (ap (λ x. record { field = x; names = st.names }) same)
-    (λ other. stops_by st f c (IsReducible st.field f c) (modulus_refusal st.field f) is (stops other))
 
 -- A form over the top field does what its work does.
 pub over_does : (st : State) (f : Form) (t : Top) (r : Result Answer Stop) (ns : List (List ℕ × Value)) → st.field ≡ field.Top t → name_refusal st (demands f) ≡ None

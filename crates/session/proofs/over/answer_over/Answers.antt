@@ -1,11 +1,11 @@
-use Rattle.std.proofs.Common.{◌≡◌, ℕ, true, Some, None, option_map, List, sym, ap, subst, ◌∙◌}
+use Rattle.std.proofs.Common.{◌≡◌, true, None, option_map, sym, ap, subst, ◌∙◌}
 use Rattle.statement_operands.specs.Demands.{demands}
 use Rattle.statement_work.specs.Refusals.{work_refusal}
 use Rattle.statement_work.specs.Results.{named_value}
 use Rattle.statement_work.specs.Works.{Works}
 use Rattle.session.specs.Steps.{added}
 use Rattle.kept_lists.specs.Pairs.{pairs_of}
-use Rattle.statement_work.specs.Keeps.{pairs_after, is_kept_count}
+use Rattle.statement_work.specs.Keeps.{is_kept_count}
 use Rattle.statement_work.proofs.Keeping.{plain_pairs, naming_is_plain, count_gives_none}
 use Rattle.session.proofs.Keeping.{on_err}
 use Rattle.session.proofs.Named.{some_name, no_name, given_name}

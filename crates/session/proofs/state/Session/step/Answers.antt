@@ -7,7 +7,7 @@ use Rattle.session.specs.State.{State}
 use Rattle.session.specs.Refusals.{field_refusal, name_refusal}
 use Rattle.session.proofs.Granted.{granted}
 use Rattle.session.proofs.Keeping.{pairs_top, count_free}
-use Rattle.session.proofs.Stepping.{needs_top, no_top, set_does, sound_set}
+use Rattle.session.proofs.Stepping.{needs_top, no_top}
 use Rattle.session.proofs.state.Session.step.Goals as goal
 
 pub answer_over-requires-clause-known : goal.answer_over-requires-clause-known
