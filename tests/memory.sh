@@ -2,7 +2,8 @@
 # Outside the gate: refuses memory to the program in turn. Of the calls by which it asks the system's library for memory the
 # first is refused, then the second, and so on; and then the same with all later ones refused, too. Each run must end with the
 # status of want of memory and exactly the texts of the first statements, or with status 0 and the whole output. Prints each run that
-# doesn't, then the counts, and ends with a nonzero status if there is one. A C compiler `cc` is needed.
+# doesn't, then the counts, and ends with a nonzero status if there is one. A C compiler `cc` and the GNU C
+# library are needed, and a SCRIPT that ends with status 0.
 #
 #     tests/memory.sh < SCRIPT
 #     tests/memory.sh --sample N < /dev/null

@@ -42,6 +42,7 @@ pub fn isomorphic<K: FrobField>(
 }
 
 /// What `isomorphic` gives, made from the full list of the homomorphisms from `phi` to `psi` in place of a linear system.
+/// The only refusal is want of memory.
 pub fn isomorphic_from<K: FrobField>(
     alloc: Global,
     k: &K,

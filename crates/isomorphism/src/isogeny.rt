@@ -28,7 +28,8 @@ pub fn isogenous<K: FrobField>(
     isogenous_from(alloc, k, phi, psi, &list)
 }
 
-/// What `isogenous` gives, a copy from the full list of the homomorphisms from `phi` to `psi`.
+/// What `isogenous` gives, a copy from the full list of the homomorphisms from `phi` to `psi`. The only refusal is want of
+/// memory.
 pub fn isogenous_from<K: FrobField>(
     alloc: Global,
     k: &K,

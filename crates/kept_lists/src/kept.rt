@@ -18,8 +18,11 @@ const MOST_LISTS: usize = 8;
 /// The full list of the homomorphisms from `source` to `target`.
 #[derive(Drop)]
 pub struct KeptList<C> {
+    /// The module from which the homomorphisms go.
     pub source: Module<C>,
+    /// The module to which they go.
     pub target: Module<C>,
+    /// The members of the full list, by rising leads.
     pub members: Items<Ore<C>>,
 }
 
@@ -60,7 +63,8 @@ impl<C: Copy> KeptLists<C> {
         self.lists.len()
     }
 
-    /// Takes the room for one more list, so that `keep` takes no more memory.
+    /// Takes the room for one more list, so that `keep` needs no more; that it then takes none is told by no clause. The
+    /// only refusal is want of memory; the lists are as before in any case.
     pub fn room(&mut self) -> Result<(), NoMemory>
         ensures { self.new ≡ self.old }
     {
@@ -68,7 +72,8 @@ impl<C: Copy> KeptLists<C> {
         Ok(())
     }
 
-    /// Keeps one more list, as the newest; where that makes nine, the oldest goes.
+    /// Keeps one more list, as the newest; where that makes nine, the oldest goes. The only refusal is want of memory;
+    /// then the lists are as before.
     pub fn keep(&mut self, list: KeptList<C>) -> Result<(), NoMemory>
         ensures ok { OnOk result (self.new ≡ newest (self.old ++ list ∷ [])) }
         ensures same { OnErr result (self.new ≡ self.old) }

@@ -22,7 +22,7 @@ abbrev pub AreKeptOver : FieldState → List (KeptList TopElem) → Type 0
 AreKeptOver k kept = AreOver (top_of k) kept
 
 -- The fields of a session: the names have values over its field, and each kept list is full over it.
-pub record IsSound (k : FieldState) (ns : List (List ℕ × Value)) (kept : List (KeptList TopElem)) : Type 0 where
+pub record AreSessionParts (k : FieldState) (ns : List (List ℕ × Value)) (kept : List (KeptList TopElem)) : Type 0 where
   pub sound : is_sound k ns ≡ true
   pub full : AreKeptOver k kept
 

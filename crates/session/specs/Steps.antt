@@ -87,8 +87,8 @@ Gives st f a next = GivesOver (top_of st.field) st f a next
 abbrev pub Answers : State → Form → Answer → State → Type 0
 Answers st f a next = (refusal st f ≡ None) × Gives st f a next
 
--- The outcome of a statement and the state after it. Want of memory may come anywhere, and like each
--- stop it leaves the state.
+-- The outcome of a statement and the state after it. Here want of memory may come anywhere, and like
+-- each stop it leaves the state.
 abbrev pub Does : State → Form → Result Answer Stop → State → Type 0
 Does st f (Ok a) next = Answers st f a next
 Does st f (Err stop.NoMemory) next = next ≡ st

@@ -19,11 +19,11 @@ pub struct Session {
 impl Model for Session {
     ghost use Rattle.kept_lists.specs.Pairs.{pairs_of};
     ghost use Rattle.session.specs.State.{Seen};
-    ghost use Rattle.session.specs.Kept.{IsSound};
+    ghost use Rattle.session.specs.Kept.{AreSessionParts};
 
     ghost Value = { Seen };
 
     ghost view = { λ s. record { state = record { field = s.field; names = s.names }; pairs = pairs_of s.kept } };
 
-    ghost invariant = { λ s. IsSound s.field s.names s.kept };
+    ghost invariant = { λ s. AreSessionParts s.field s.names s.kept };
 }

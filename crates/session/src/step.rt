@@ -1,4 +1,4 @@
-ghost use Rattle.std.specs.Prelude.{◌≡◌, [], true, length, OnErr};
+ghost use Rattle.std.specs.Prelude.{◌≡◌, ◌≤◌, [], true, length, OnErr};
 ghost use Rattle.script_parse.specs.Version.{version_1};
 ghost use Rattle.script_parse.specs.Within.{IsWithin};
 ghost use Rattle.answer.specs.Texts.{field_of};
@@ -18,7 +18,7 @@ use statement_operands::{Names, Stop, asked_by};
 use std::alloc::Global;
 
 impl Session {
-    /// A session with no field and no names.
+    /// A session with no field, no names and no kept lists. Takes no memory.
     pub fn new(alloc: Global) -> Session
         ensures state { state_of result ≡ first_state }
         ensures kept { kept_pairs result ≡ [] }
@@ -31,9 +31,10 @@ impl Session {
         }
     }
 
-    /// How many full lists of homomorphisms are kept. Takes no memory.
+    /// How many full lists of homomorphisms are kept, at most 8. Takes no memory.
     pub fn kept(&self) -> usize
-        ensures { result ≡ length (kept_pairs self.now) }
+        ensures count { result ≡ length (kept_pairs self.now) }
+        ensures few { result ≤ 8 }
     {
         self.kept.len()
     }
@@ -50,10 +51,10 @@ impl Session {
     }
 
     /// Answers a statement, or says why it stops; after a stop the field, the names and the kept lists are as before.
-    /// What is looked at first is the field that the form needs, an operand that isn't defined, an operand of the other kind, a new name that is
-    /// taken, and what the work of the form refuses. The room for a new name is taken before the work. `full`, `fullsize` and `isogenous` have the full list of
-    /// their two modules kept, as the last of at most 8; a pair that is kept keeps its place, and a `fullsize` of two names
-    /// whose pair is kept takes no memory.
+    /// What is looked at first is the field that the form needs, an operand that isn't defined, an operand of the other
+    /// kind, a new name that is taken, and what the work of the form refuses. The room for a new name is taken before the
+    /// work. `full`, `fullsize` and `isogenous` have the full list of their two modules kept, as the last of at most 8; a
+    /// pair that is kept keeps its place, and a `fullsize` of two names whose pair is kept takes no memory.
     pub fn step(&mut self, statement: &Statement) -> Result<Answer, Stop>
         requires { IsWithin version_1 statement.now.form }
         ensures does { Does (state_of self.old) statement.now.form result (state_of self.new) }

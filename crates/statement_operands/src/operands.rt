@@ -5,7 +5,7 @@ ghost use Rattle.drinfeld_mod.specs.Module.{IsModule};
 ghost use Rattle.operand_value.specs.Operands.{list_values};
 ghost use Rattle.statement_operands.specs.Asked.{if_some, unknown_module, unknown_twisted, wrong_module, wrong_twisted, unknown_name, wrong_kind};
 ghost use Rattle.statement_operands.specs.Fits.{OperandFits, DemandsFit};
-ghost use Rattle.statement_operands.specs.Named.{is_name, are_names};
+ghost use Rattle.statement_operands.specs.Named.{is_name, has_only_named_modules};
 ghost use Rattle.statement_operands.specs.Ranks.{unranked_list, unranked_module, unranked_operands};
 ghost use Rattle.statement_operands.specs.Resolved.{held, AreResolved};
 ghost use Rattle.statement_operands.specs.Seen.{seen};
@@ -185,7 +185,7 @@ pub fn resolve<'a>(
     ensures resolved { IfOk result (λ o. AreResolved t.now names.now (seen d.now) o) }
     ensures ranked { OnOk result (unranked_operands t.now (seen d.now) ≡ false) }
     ensures stop { IfErr result (λ c. c ≢ Stop.NoMemory → (c ≡ Stop.Meaning MeaningKind.NoRank) × (unranked_operands t.now (seen d.now) ≡ true)) }
-    ensures named { are_names (seen d.now) ≡ true → OnErr result ⊥ }
+    ensures named { has_only_named_modules (seen d.now) ≡ true → OnErr result ⊥ }
 {
     let u = twisted_option(alloc, t, names, d.u)?;
     let v = twisted_option(alloc, t, names, d.v)?;

@@ -11,7 +11,7 @@ use Rattle.script_statement.specs.declared.Form.{Form}
 use Rattle.script_statement.specs.declared.Form.TheVariants as form
 use Rattle.answer.specs.declared.Value.{Value}
 use Rattle.statement_operands.specs.Demands.{demands}
-use Rattle.statement_operands.specs.Named.{is_name, are_names}
+use Rattle.statement_operands.specs.Named.{is_name, has_only_named_modules}
 use Rattle.statement_work.specs.Keeps.{pairs_after, is_kept_count}
 use Rattle.statement_work.specs.steps.Full.{keeps_list}
 
@@ -48,7 +48,7 @@ naming_is_plain (form.Fullsize m n) name h = absurd (none-some name h)
 naming_is_plain f name h = refl
 
 -- The operands of a count for two names are made of nothing, and it gives no name.
-pub count_names : (t : Top) (ns : List (List ℕ × Value)) (f : Form) (pairs : List (List TopElem × List TopElem)) → is_kept_count t ns f pairs ≡ true → are_names (demands f) ≡ true
+pub count_names : (t : Top) (ns : List (List ℕ × Value)) (f : Form) (pairs : List (List TopElem × List TopElem)) → is_kept_count t ns f pairs ≡ true → has_only_named_modules (demands f) ≡ true
 count_names t ns (form.Fullsize m n) pairs h =
     let names : (is_name m && is_name n) ≡ true = (and_parts _ _ h).0 in
     ap₂ (λ a b. not (not a || not b) && true) (and_parts _ _ names).0 (and_parts _ _ names).1

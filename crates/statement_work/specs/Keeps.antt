@@ -1,4 +1,4 @@
--- The full lists that answers leave kept, which are asked of the same two modules once.
+-- The pairs of modules whose full lists are kept after an answer, and the counts that a kept list answers.
 use Rattle.std.specs.Prelude.{ℕ, ◌&&◌, Bool, true, false, List}
 use Rattle.residue_field.specs.declared.TopElem.{TopElem}
 use Rattle.residue_field.specs.Base.{ops_of}

@@ -134,8 +134,8 @@ fn work(
 }
 
 /// What a form over a top field answers or refuses, where the names meet what it asks. `isogenous`, `full` and `fullsize`
-/// have the full list of their two modules kept, and each question about a kept pair is told from its list; a count for
-/// two names by a kept list takes no memory.
+/// have the full list of their two modules kept, and what the forms on lists, isomorphisms and isogenies ask of a kept pair is
+/// told from its list; a count for two names by a kept list takes no memory.
 pub fn answer_of(
     alloc: Global,
     t: &Tower,

@@ -42,7 +42,8 @@ IsLastRemainder {E} r frob a b d s w = (t v : List E) × IsLastLink r frob a b d
 abbrev pub IsLastRelation : {E : Type 0} → RingOps E → (E → ℕ → E) → List E → List E → List E → List E → Type 0
 IsLastRelation {E} r frob a b t v = (d s w : List E) × IsLastLink r frob a b d s w t v
 
--- `u` and `v` follow each other in the chain, and `v` is zero or a constant: so `u`, or else `v`, is the last remainder.
+-- `u` and `v` follow each other in the chain. Where `v` is zero, `u` is the last remainder; else `v` is, and the link after
+-- them holds the last relation.
 pub record AreLastLinks {E : Type 0} (r : RingOps E) (frob : E → ℕ → E) (a b u v su sv wu wv : List E) : Type 0 where
   pub first : is_canonical r u ≡ true
   pub second : is_canonical r v ≡ true
