@@ -101,7 +101,11 @@ fn print_times<K: FrobField>(rt: &HostRuntime, k: &K, phi: &Module<E<K>>) -> io:
         let (_, time) = image_time(rt, k, phi)?;
         of_image = of_image.min(time);
     }
-    println!(rt; "  height {h} of rank {}: {} us", phi.rank(), of_height.as_micros())?;
+    println!(rt;
+        "  height {h} of rank {}: {} us",
+        phi.rank(),
+        of_height.as_micros()
+    )?;
     println!(rt; "  image of degree {degree}: {} us", of_image.as_micros())
 }
 

@@ -54,11 +54,7 @@ fn drawn<K: FrobField>(
         list.push(element(rt, k, random.below(4096))?)?;
     }
     let top = element(rt, k, random.below(4096))?;
-    list.push(if k.equal(top, k.zero()) {
-        k.one()
-    } else {
-        top
-    })?;
+    list.push(if k.equal(top, k.zero()) { k.one() } else { top })?;
     if !all_elems(k, &list) {
         return Err(invalid());
     }

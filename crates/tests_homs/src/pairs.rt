@@ -145,11 +145,7 @@ fn combinations<K: FrobField>(
 }
 
 /// Whether the lists have the same members.
-fn are_same_lists<K: FrobField>(
-    field: &K,
-    a: &[Ore<E<K>>],
-    b: &[Ore<E<K>>],
-) -> Result<bool, Fail> {
+fn are_same_lists<K: FrobField>(field: &K, a: &[Ore<E<K>>], b: &[Ore<E<K>>]) -> Result<bool, Fail> {
     for (left, right) in a.iter().zip(b) {
         if !are_same(field, left.as_slice(), right.as_slice())? {
             return Ok(false);
@@ -191,7 +187,10 @@ fn check_lists<K: FrobField>(
     let lists = full_between(alloc, field, phi, psi, DEGREE)?;
     assert!(rt; are_same_lists(field, &lists.bounded, &bounded)?);
     let count = combinations(alloc, field, base, &lists.full)?;
-    assert_eq!(rt; base.len().saturating_pow(u32::try_from(bounded.len())?), count);
+    assert_eq!(rt;
+        base.len().saturating_pow(u32::try_from(bounded.len())?),
+        count
+    );
     assert!(rt; is_homomorphism(alloc, field, (phi, psi), known)?);
     assert!(rt; are_same(field, known, &[])? || !bounded.is_empty());
     assert!(rt; phi.len() == psi.len() || lists.full.is_empty());
