@@ -1,10 +1,14 @@
-//! The full lists that a session keeps: how many, and that what is told from them is what is told without them.
+//! The full lists that a session keeps: how many, and that what is told from them is what is told without them. In the
+//! tables a semicolon ends a line, and each script begins with no field.
 
-use super::sessions::{over_four, said, stop_of};
-use session::{MeaningKind, Stop};
+use super::sessions::{is_text, said, stop_of};
+use session::{MeaningKind, Session, Stop};
 use std::alloc::Global;
 use std::process::Abort;
 use std::test::Fail;
+
+/// The field of four elements over that of two.
+const FOUR: &str = "base 2;over 2 z^2+z+1";
 
 /// Nine different pairs of modules of rank 1 with one constant, over the field of four elements.
 const NINE_PAIRS: &str = "fullsize [z, 1] [z, 1]
@@ -17,7 +21,21 @@ fullsize [z, z+1] [z, 1]
 fullsize [z, z+1] [z, z]
 fullsize [z, z+1] [z, z+1]";
 
-/// A session asks for a full list, and then the question; another asks the question alone.
+/// A statement that has the list of a pair kept, a question about the pair, and the answer to the question.
+const QUESTIONS: &str = "full [z, 1] [z, 1] => bounded [z, 1] [z, 1] 2 => members 3;1;z + t;t^2
+isogenous [z, 1] [z, z] => iso [z, 1] [z, z] => isomorphic by z+1
+fullsize [z, 1] [z, z] => isogenous [z, 1] [z, z] => isogenous by z+1
+fullsize [z, 1] [z, 1] => full [z, 1] [z, 1] => members 2;1;z + t
+full [z, 1] [z, 1] => module phi = [z, 1];fullsize phi phi => members 2, degree 1";
+
+/// Statements that make no full list, one that does, and one that stops since the constants differ.
+const UNKEPT: &str = "bounded [z, 1] [z, 1] 2;iso [z, 1] [z, z]";
+
+const KEPT: &str = "fullsize [z, 1] [z, 1]";
+
+const STOPPED: &str = "fullsize [z, 1] [z+1, 1]";
+
+/// One session answers the question after the first statement, another without it.
 fn check_question(
     rt: &impl Abort,
     alloc: Global,
@@ -25,109 +43,70 @@ fn check_question(
     question: &str,
     want: &str,
 ) -> Result<(), Fail> {
-    let mut keeping = over_four(alloc)?;
+    let mut keeping = Session::new(alloc);
+    said(alloc, &mut keeping, FOUR)?;
     said(alloc, &mut keeping, first)?;
     assert_eq!(rt; keeping.kept(), 1);
     let told = said(alloc, &mut keeping, question)?;
+    assert!(rt; is_text(alloc, &told, want)?);
     assert_eq!(rt; keeping.kept(), 1);
-    assert!(rt; told.as_slice() == want.as_bytes());
-    let mut without = over_four(alloc)?;
-    let found = said(alloc, &mut without, question)?;
-    assert!(rt; found.as_slice() == want.as_bytes());
     Ok(())
 }
 
-/// At most eight are kept.
+fn check_without(rt: &impl Abort, alloc: Global, question: &str, want: &str) -> Result<(), Fail> {
+    let mut session = Session::new(alloc);
+    said(alloc, &mut session, FOUR)?;
+    let found = said(alloc, &mut session, question)?;
+    assert!(rt; is_text(alloc, &found, want)?);
+    Ok(())
+}
+
+fn check_questions(rt: &impl Abort, alloc: Global, table: &str) -> Result<(), Fail> {
+    for row in table.split('\n') {
+        let (first, rest) = row.split_once(" => ").ok_or("a statement")?;
+        let (question, want) = rest.split_once(" => ").ok_or("a question")?;
+        check_question(rt, alloc, first, question, want)?;
+        check_without(rt, alloc, question, want)?;
+    }
+    Ok(())
+}
+
+/// How many lists are kept after each line: one more, and no more than eight.
+fn check_counts(rt: &impl Abort, alloc: Global, lines: &str) -> Result<(), Fail> {
+    let mut session = Session::new(alloc);
+    said(alloc, &mut session, FOUR)?;
+    let mut count: usize = 0;
+    for line in lines.split('\n') {
+        said(alloc, &mut session, line)?;
+        count = count.saturating_add(1);
+        assert_eq!(rt; session.kept(), count.min(8));
+    }
+    assert_eq!(rt; count, 9);
+    Ok(())
+}
+
 #[test]
 fn keeps_eight(rt: HostRuntime) -> Result<(), Fail> {
-    let alloc = rt.alloc();
-    let mut session = over_four(alloc)?;
-    let mut statements: usize = 0;
-    for line in NINE_PAIRS.lines() {
-        said(alloc, &mut session, line)?;
-        statements = statements.saturating_add(1);
-        assert_eq!(&rt; session.kept(), statements.min(8));
-    }
-    assert_eq!(&rt; statements, 9);
-    Ok(())
+    check_counts(&rt, rt.alloc(), NINE_PAIRS)
 }
 
 #[test]
-fn bounded_of_a_kept_pair(rt: HostRuntime) -> Result<(), Fail> {
-    let want = "members 3\n1\nz + t\nt^2\n";
-    check_question(
-        &rt,
-        rt.alloc(),
-        "full [z, 1] [z, 1]",
-        "bounded [z, 1] [z, 1] 2",
-        want,
-    )
+fn told_from_kept_lists(rt: HostRuntime) -> Result<(), Fail> {
+    check_questions(&rt, rt.alloc(), QUESTIONS)
 }
 
-#[test]
-fn iso_of_a_kept_pair(rt: HostRuntime) -> Result<(), Fail> {
-    let want = "isomorphic by z+1\n";
-    check_question(
-        &rt,
-        rt.alloc(),
-        "isogenous [z, 1] [z, z]",
-        "iso [z, 1] [z, z]",
-        want,
-    )
-}
-
-#[test]
-fn isogenous_of_a_kept_pair(rt: HostRuntime) -> Result<(), Fail> {
-    let want = "isogenous by z+1\n";
-    check_question(
-        &rt,
-        rt.alloc(),
-        "fullsize [z, 1] [z, z]",
-        "isogenous [z, 1] [z, z]",
-        want,
-    )
-}
-
-#[test]
-fn full_of_a_kept_pair(rt: HostRuntime) -> Result<(), Fail> {
-    let want = "members 2\n1\nz + t\n";
-    check_question(
-        &rt,
-        rt.alloc(),
-        "module phi = [z, 1]\nfullsize phi phi",
-        "full [z, 1] [z, 1]",
-        want,
-    )
-}
-
-/// A count of two names whose pair is kept.
-#[test]
-fn fullsize_of_a_kept_pair(rt: HostRuntime) -> Result<(), Fail> {
-    let want = "members 2, degree 1\n";
-    check_question(
-        &rt,
-        rt.alloc(),
-        "full [z, 1] [z, 1]",
-        "module phi = [z, 1]\nfullsize phi phi",
-        want,
-    )
-}
-
-/// Statements that make no full list keep none, and one that stops leaves those that are kept.
+/// A stop leaves those that are kept.
 #[test]
 fn keeps_no_more(rt: HostRuntime) -> Result<(), Fail> {
     let alloc = rt.alloc();
-    let mut session = over_four(alloc)?;
-    said(
-        alloc,
-        &mut session,
-        "bounded [z, 1] [z, 1] 2\niso [z, 1] [z, z]",
-    )?;
+    let mut session = Session::new(alloc);
+    said(alloc, &mut session, FOUR)?;
+    said(alloc, &mut session, UNKEPT)?;
     assert_eq!(&rt; session.kept(), 0);
-    said(alloc, &mut session, "fullsize [z, 1] [z, 1]")?;
+    said(alloc, &mut session, KEPT)?;
     assert_eq!(&rt; session.kept(), 1);
-    let stop = stop_of(alloc, &mut session, "fullsize [z, 1] [z+1, 1]")?;
-    assert!(&rt; matches!(stop, Stop::Meaning(MeaningKind::OtherConstant)));
+    let stop = stop_of(alloc, &mut session, STOPPED)?;
+    assert!(&rt; matches!(stop, Some(Stop::Meaning(MeaningKind::OtherConstant))));
     assert_eq!(&rt; session.kept(), 1);
     Ok(())
 }

@@ -1,54 +1,84 @@
-//! What sessions answer to scripts.
+//! What sessions answer to lines.
+ghost use Rattle.script_parse.specs.Version.{version_1};
+ghost use Rattle.script_parse.specs.Within.{IsWithin};
 
 use answer_print::write_answer;
-use script_parse::parse;
+use ring_core::NoMemory;
+use script_parse::{Statement, parse};
 use session::{Session, Stop};
 use std::alloc::Global;
 use std::test::Fail;
 
-/// The field of four elements over that of two.
-const FOUR: &str = "base 2\nover 2 z^2+z+1";
-
-/// Lets the session answer the statements of the lines, and gives the text of the last answer.
-pub fn said(alloc: Global, session: &mut Session, lines: &str) -> Result<Vec<u8>, Fail> {
+/// The lines of a row, which stand in it between semicolons.
+fn lines_of(alloc: Global, row: &str) -> Result<Vec<u8>, NoMemory> {
     let mut text = Vec::new(alloc);
-    if lines.len() > 65536 {
-        return Err(Fail::new("the lines are no script"));
+    for byte in row.as_bytes() {
+        text.push(if *byte == b';' { b'\n' } else { *byte })?;
     }
-    let Ok(script) = parse(alloc, lines.as_bytes()) else {
-        return Err(Fail::new("the lines are no script"));
+    text.push(b'\n')?;
+    Ok(text)
+}
+
+/// The text of the answer.
+fn answered(alloc: Global, session: &mut Session, statement: &Statement) -> Result<Vec<u8>, Fail>
+    requires { IsWithin version_1 statement.now.form }
+{
+    let answer = match session.step(statement) {
+        Ok(answer) => answer,
+        Err(_) => return Err(Fail::new("a statement stops")),
     };
+    let mut text = Vec::new(alloc);
+    let Ok(()) = write_answer(alloc, session.printing(), &answer, &mut text) else {
+        return Err(Fail::new("memory for a text"));
+    };
+    Ok(text)
+}
+
+/// The stop of the statement, None where it is answered.
+fn stopped(session: &mut Session, statement: &Statement) -> Option<Stop>
+    requires { IsWithin version_1 statement.now.form }
+{
+    match session.step(statement) {
+        Ok(_) => None,
+        Err(stop) => Some(stop),
+    }
+}
+
+/// Lets the session answer the lines of a row, and gives the text of the last answer.
+pub fn said(alloc: Global, session: &mut Session, row: &str) -> Result<Vec<u8>, Fail> {
+    let lines = lines_of(alloc, row)?;
+    if lines.len() > 65536 {
+        return Err(Fail::new("a short row"));
+    }
+    let Ok(script) = parse(alloc, &lines) else {
+        return Err(Fail::new("a script"));
+    };
+    let mut text = Vec::new(alloc);
     for statement in script.list.as_slice() {
-        let Ok(answer) = session.step(statement) else {
-            return Err(Fail::new("a statement stops"));
-        };
-        text.clear();
-        let Ok(()) = write_answer(alloc, session.printing(), &answer, &mut text) else {
-            return Err(Fail::new("memory for a text"));
-        };
+        text = answered(alloc, session, statement)?;
     }
     Ok(text)
 }
 
-/// The stop of the statement of the line.
-pub fn stop_of(alloc: Global, session: &mut Session, line: &str) -> Result<Stop, Fail> {
-    if line.len() > 65536 {
-        return Err(Fail::new("the line is no script"));
+/// The first stop of the lines of a row, None where all are answered.
+pub fn stop_of(alloc: Global, session: &mut Session, row: &str) -> Result<Option<Stop>, Fail> {
+    let lines = lines_of(alloc, row)?;
+    if lines.len() > 65536 {
+        return Err(Fail::new("a short row"));
     }
-    let Ok(script) = parse(alloc, line.as_bytes()) else {
-        return Err(Fail::new("the line is no script"));
+    let Ok(script) = parse(alloc, &lines) else {
+        return Err(Fail::new("a script"));
     };
     for statement in script.list.as_slice() {
-        if let Err(stop) = session.step(statement) {
-            return Ok(stop);
+        if let Some(stop) = stopped(session, statement) {
+            return Ok(Some(stop));
         }
     }
-    Err(Fail::new("no statement stops"))
+    Ok(None)
 }
 
-/// A session over the field of four elements.
-pub fn over_four(alloc: Global) -> Result<Session, Fail> {
-    let mut session = Session::new(alloc);
-    said(alloc, &mut session, FOUR)?;
-    Ok(session)
+/// Whether a text is that of the lines of a row.
+pub fn is_text(alloc: Global, text: &[u8], row: &str) -> Result<bool, Fail> {
+    let want = lines_of(alloc, row)?;
+    Ok(text == want.as_slice())
 }
