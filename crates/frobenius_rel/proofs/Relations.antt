@@ -1,15 +1,15 @@
 -- The least relation of Frobenius, from a basis of the relations between the coordinates of its powers.
-use Rattle.std.proofs.Common.{◌≡◌, ◌≢◌, ℕ, suc, ◌-◌, ◌*◌, ◌<◌, ◌≤◌, Option, true, List, [], length, refl, sym, ◌∙◌, ap, subst, ⊎_elim, arith}
+use Rattle.std.proofs.Common.{◌≡◌, ℕ, suc, ◌-◌, ◌*◌, ◌<◌, ◌≤◌, Option, true, List, length, refl, sym, ◌∙◌, ap, arith}
 use Rattle.ring_core.specs.Ring.{RingOps, IsRing}
 use Rattle.ring_core.specs.Field.{IsField, FrobOps, IsFrobField}
 use Rattle.ring_core.specs.Coeffs.{coeff}
 use Rattle.ring_core.specs.Twisted.{twisted_ops}
-use Rattle.ring_core.proofs.Carrier.{RingOn, Element, same_element, add_zero, zero_mul}
+use Rattle.ring_core.proofs.Carrier.{RingOn, Element, same_element}
 use Rattle.ring_core.proofs.Coefficients.{coeff_past, elem_read}
 use Rattle.ring_core.proofs.ListRing.{poly_ring}
 use Rattle.linear_algebra.specs.Linear.{row_at, entry, is_row, are_rows}
 use Rattle.linear_algebra.proofs.Sums.{combine, combine_same}
-use Rattle.linear_algebra.proofs.Dependent.{IsDomain, Dependence, dependence}
+use Rattle.linear_algebra.proofs.Dependent.{Dependence, dependence}
 use Rattle.linear_algebra.proofs.Augment.{beside_low, beside_past}
 use Rattle.linear_algebra.specs.steps.Slots.{beside}
 use Rattle.linear_algebra.proofs.RowLists.{rows_at, row_len, row_elems}
@@ -29,21 +29,6 @@ use Rattle.motive_coords.proofs.OverT.{acting, coordinate_row, frob_of, coordina
 -- An empty basis: zero is the only relation.
 pub none_of_empty : {M : Type 0} (R : RingOn M) (rows : ℕ → ℕ → M) (n : ℕ) (basis : ℕ → ℕ → M) → IsBasisOfRelations R rows n 0 basis → (c : ℕ → M) → IsRel R rows n c → (i : ℕ) → c i ≡ R.zero
 none_of_empty R rows n basis s c t i = (s.spans c t).is i
-
--- A basis of one member that has row `n`: the rows before it have no relation.
-none_of_one : {M : Type 0} (R : RingOn M) → IsDomain R → (rows : ℕ → ℕ → M) (n : ℕ) (basis : ℕ → ℕ → M) → IsBasisOfRelations R rows (suc n) 1 basis → basis 0 n ≢ R.zero
-    → (c : ℕ → M) → IsRel R rows n c → (i : ℕ) → c i ≡ R.zero
-none_of_one R h rows n basis s top c t i =
-    let last : c n ≡ R.zero = t.past n (omega arith) in
-    let wide : IsRel R rows (suc n) c = record {
-      past = λ m l. t.past m (omega (arith, l));
-      is = λ j. ap (R.add (combine R n c rows j)) (ap (λ x. R.mul x (rows n j)) last ∙ zero_mul R (rows n j)) ∙ add_zero R _ ∙ t.is j;
-    } in
-    let a = s.spans c wide in
-    let one : (j : ℕ) → combine R 1 a.by basis j ≡ R.mul (a.by 0) (basis 0 j) = λ j. R.zero_add (R.mul (a.by 0) (basis 0 j)) in
-    let zero : a.by 0 ≡ R.zero =
-    ⊎_elim (λ (z : a.by 0 ≡ R.zero). z) (λ (some : a.by 0 ≢ R.zero). absurd (h.product (a.by 0) (basis 0 n) some top (sym (one n) ∙ sym (a.is n) ∙ last))) (h.decided (a.by 0)) in
-    a.is i ∙ one i ∙ ap (λ x. R.mul x (basis 0 i)) zero ∙ zero_mul R (basis 0 i)
 
 module _ {E B : Type 0} (r : RingOps E) (inv : E → Option E) (base : RingOps B) (binv : B → Option B) (f : FrobOps E B)
     (k : IsField r inv) (kb : IsField base binv) (l : IsFrobField r base f)
@@ -102,7 +87,7 @@ module _ {E B : Type 0} (r : RingOps E) (inv : E → Option E) (base : RingOps B
         is = λ j. combine_same A (suc (d * f.degree)) cut s.by v j (beside_low (suc (d * f.degree)) s.by (λ _. A.zero)) ∙ s.is j;
       }
 
-  module _ (n : ℕ) (more basis : List (List (List B))) (rows_are : ArePowerRows (suc n) more)
+  module _ (n : ℕ) (none : HasNone n) (more basis : List (List (List B))) (rows_are : ArePowerRows (suc n) more)
       (inside : are_rows (twisted_ops base (λ c i. c)) (d * f.degree) more ≡ true)
       (found : IsRowBasis (twisted_ops base (λ c i. c)) (length more) (IsRelationRow (twisted_ops base (λ c i. c)) (d * f.degree) more) basis) where
     abbrev p : RingOps (List B)
@@ -124,13 +109,6 @@ module _ {E B : Type 0} (r : RingOps E) (inv : E → Option E) (base : RingOps B
     pub none_more : length basis ≡ 0 → HasNone (suc n)
     none_more e c t i = (basis_is.spans c t).is i ∙ ap (λ m. combine A m (basis_is.spans c t).by (basis_rows p ring (d * f.degree) more basis inside found v more_same) i) e
 
-    -- a basis of one member that has the last row: none of the rows before it
-    pub none_below : length basis ≡ 1 → coeff p (row_at basis 0) n ≢ [] → HasNone n
-    none_below one top =
-        none_of_one A (poly_euclidean base binv kb).domain v n (basis_rows p ring (d * f.degree) more basis inside found v more_same)
-        (subst (λ m. IsBasisOfRelations A v (suc n) m (basis_rows p ring (d * f.degree) more basis inside found v more_same)) one basis_is)
-        (λ z. top (sym (basis_entry p ring (d * f.degree) more basis inside found v more_same 0 n) ∙ ap (λ t. t.0) z))
-
     -- The first member of the basis.
     first : ℕ → Element (twisted_ops base (λ c i. c))
     first = basis_rows p ring (d * f.degree) more basis inside found v more_same 0
@@ -139,7 +117,7 @@ module _ {E B : Type 0} (r : RingOps E) (inv : E → Option E) (base : RingOps B
     unfolding first
     first_at i = basis_entry p ring (d * f.degree) more basis inside found v more_same 0 i
 
-    module _ (none : HasNone n) (some : 0 < length basis) where
+    module _ (some : 0 < length basis) where
       least_basis : IsLeast A v n first
       unfolding first
       least_basis =

@@ -1,4 +1,4 @@
-use Rattle.std.proofs.Common.{◌≡◌, ◌+◌, ◌*◌, ◌<◌, ◌≤◌, length, [], refl, sym, ap, ap₂, ◌∙◌, subst, arith}
+use Rattle.std.proofs.Common.{◌≡◌, ◌+◌, ◌*◌, ◌<◌, ◌≤◌, length, true, [], refl, sym, ap, ap₂, ◌∙◌, subst, arith}
 use Rattle.std.proofs.Math.Nat.{mul-pos}
 use Rattle.std.proofs.lemmas.List.{get_or_read_under}
 use Rattle.ring_core.specs.Coeffs.{are_elems}
@@ -12,18 +12,18 @@ use Rattle.poly_reduce.specs.Matrices.{IsRowBasis, IsRelationRow}
 use Rattle.frobenius_rel.specs.Relation.{frobenius}
 use Rattle.frobenius_rel.specs.steps.FirstRelation.{IsFirstRelation}
 use Rattle.frobenius_rel.proofs.FrobeniusTimes.{motive_row}
-use Rattle.frobenius_rel.proofs.PowerRows.{over_t_row, listed_row, rows_more, search_more, search_found, search_ends}
-use Rattle.frobenius_rel.proofs.search.searched.Goals as goal
+use Rattle.frobenius_rel.proofs.PowerRows.{over_t_row, search_row, search_shape, search_more, search_found, search_ends}
+use Rattle.frobenius_rel.proofs.search.first_relation.Goals as goal
 
 pub motive_over_t-requires-clause-count : goal.motive_over_t-requires-clause-count
 motive_over_t-requires-clause-count g c =
     let p = c.loop.invariant.search.0.rank_pos in
-    ap length c.deref.ensures.value ∙ (c.loop.invariant.search.1 (omega (arith, p))).listed.next.count
+    ap length c.deref.ensures.value ∙ (c.loop.invariant.search.1 (omega (arith, p))).next.count
 
 pub motive_over_t-requires-clause-elems : goal.motive_over_t-requires-clause-elems
 motive_over_t-requires-clause-elems g c =
     let p = c.loop.invariant.search.0.rank_pos in
-    ap (are_elems (twisted_ops (g.K.Field.ops c.args.field.now) (λ c i. c))) c.deref.ensures.value ∙ (c.loop.invariant.search.1 (omega (arith, p))).listed.next.elems
+    ap (are_elems (twisted_ops (g.K.Field.ops c.args.field.now) (λ c i. c))) c.deref.ensures.value ∙ (c.loop.invariant.search.1 (omega (arith, p))).next.elems
 
 pub push-requires : goal.push-requires
 push-requires g c =
@@ -39,8 +39,8 @@ push-requires g c =
     row_len (twisted_ops (g.K.Base.Field.ops base) (λ c i. c)) (rank_of c.args.phi.now * f.degree) row
     (over_t_row r (g.K.Field.inv_of field) (g.K.Base.Field.ops base) (g.K.Base.Field.inv_of base) f (g.met.K.Field.laws field) (g.met.K.Base.Field.laws base) (g.met.K.FrobField.frob_laws field)
     c.args.phi.now m.canonical long (power_of (twisted_ops r f.frob) (frobenius r f) c.loop.counter) row
-    (listed_row r (g.K.Field.inv_of field) (g.K.Base.Field.ops base) (g.K.Base.Field.inv_of base) f (g.met.K.Field.laws field) (g.met.K.Base.Field.laws base) (g.met.K.FrobField.frob_laws field)
-    c.args.phi.now m.canonical long c.loop.counter c.loop.rows.rows c.loop.power.items row (c.loop.invariant.search.1 long).listed parts))
+    (search_row r (g.K.Field.inv_of field) (g.K.Base.Field.ops base) (g.K.Base.Field.inv_of base) f (g.met.K.Field.laws field) (g.met.K.Base.Field.laws base) (g.met.K.FrobField.frob_laws field)
+    c.args.phi.now m.canonical long c.loop.counter c.loop.rows.rows c.loop.power.items row (c.loop.invariant.search.1 long) parts))
     ∙ sym c.requires.width ∙ sym c.loop.invariant.width
 
 pub kernel-requires-clause-width : goal.kernel-requires-clause-width
@@ -61,16 +61,16 @@ kernel-requires-clause-rows g c =
     let f = g.K.FrobField.frob_ops field in
     let parts = c.in_ok-row.ensures ∙ ap (base_parts r (g.K.Base.Field.ops base) f) c.deref.ensures.value in
     ap₂ (λ t w. are_rows (twisted_ops (g.K.Base.Field.ops t) (λ c i. c)) w c.push.new.self.rows) c.base.ensures (c.in_ok-push.ensures.width ∙ c.loop.invariant.width ∙ c.requires.width)
-    ∙ (rows_more r (g.K.Field.inv_of field) (g.K.Base.Field.ops base) (g.K.Base.Field.inv_of base) f (g.met.K.Field.laws field) (g.met.K.Base.Field.laws base) (g.met.K.FrobField.frob_laws field)
+    ∙ search_shape r (g.K.Field.inv_of field) (g.K.Base.Field.ops base) (g.K.Base.Field.inv_of base) f (g.met.K.Field.laws field) (g.met.K.Base.Field.laws base) (g.met.K.FrobField.frob_laws field)
     c.args.phi.now m.canonical (omega (arith, p)) c.loop.counter c.loop.rows.rows c.loop.power.items c.in_ok-row.row.items
-    (c.loop.invariant.search.1 (omega (arith, p))).listed parts c.push.new.self.rows c.in_ok-push.ensures.rows).shape
+    (c.loop.invariant.search.1 (omega (arith, p))) parts c.push.new.self.rows c.in_ok-push.ensures.rows
 
 pub times_frobenius-requires-clause-list : goal.times_frobenius-requires-clause-list
 times_frobenius-requires-clause-list g c =
     let p = c.loop.invariant.search.0.rank_pos in
     let r = g.K.Field.ops c.args.field.now in
     let f = g.K.FrobField.frob_ops c.args.field.now in
-    motive_row r f.frob c.args.phi.now (power_of (twisted_ops r f.frob) (frobenius r f) c.loop.counter) c.loop.power.items (c.loop.invariant.search.1 (omega (arith, p))).listed.next
+    motive_row r f.frob c.args.phi.now (power_of (twisted_ops r f.frob) (frobenius r f) c.loop.counter) c.loop.power.items (c.loop.invariant.search.1 (omega (arith, p))).next
 
 pub unreachable-requires : goal.unreachable-requires
 unreachable-requires g c =
@@ -106,7 +106,7 @@ returns-then-len-gt0 g c =
     subst (IsFirstRelation r (g.K.Base.Field.ops base) f c.args.phi.now) (sym first)
     (search_found r (g.K.Field.inv_of field) (g.K.Base.Field.ops base) (g.K.Base.Field.inv_of base) f (g.met.K.Field.laws field) (g.met.K.Base.Field.laws base) (g.met.K.FrobField.frob_laws field)
     c.args.phi.now m.canonical long c.loop.counter c.loop.rows.rows c.loop.power.items c.in_ok-row.row.items
-    (c.loop.invariant.search.1 long).listed parts more c.in_ok-push.ensures.rows (c.loop.invariant.search.1 long).none basis found some)
+    (c.loop.invariant.search.1 long) parts more c.in_ok-push.ensures.rows basis found some)
 
 pub loop-preserved : goal.loop-preserved
 loop-preserved g c =
@@ -129,6 +129,6 @@ loop-preserved g c =
         λ long.
             search_more r (g.K.Field.inv_of field) (g.K.Base.Field.ops base) (g.K.Base.Field.inv_of base) f (g.met.K.Field.laws field) (g.met.K.Base.Field.laws base) (g.met.K.FrobField.frob_laws field)
             c.args.phi.now c.loop.invariant.search.0.canonical long c.loop.counter c.loop.rows.rows c.loop.power.items c.in_ok-row.row.items
-            (c.loop.invariant.search.1 long).listed parts more c.in_ok-push.ensures.rows (c.loop.invariant.search.1 long).none basis found none c.args.matrix.now.rows c.requires.rows c.in_ok-power-2.power.items c.in_ok-power-2.ensures,
+            (c.loop.invariant.search.1 long) parts more c.in_ok-push.ensures.rows basis found none c.in_ok-matrix.matrix.rows c.in_ok-matrix.ensures.rows c.in_ok-power-2.power.items c.in_ok-power-2.ensures,
       );
     }
