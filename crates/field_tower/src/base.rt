@@ -7,7 +7,7 @@ ghost use Rattle.field_tower.specs.steps.Tables.{IsRow, IsTable};
 ghost use Rattle.residue_field.specs.Sizes.{most_codes};
 ghost use Rattle.residue_field.specs.Prime.{is_listed, prime_ops};
 ghost use Rattle.residue_field.specs.Base.{Base, IsBase, base_ops, base_code, ops_of, size_of, inverse_of, letter_code};
-ghost use Rattle.residue_field.proofs.BaseLaws.{base_field};
+ghost use Rattle.residue_field.proofs.BaseLaws.{base_field, base_ring};
 ghost use Rattle.field_tower.specs.declared.size.TheConstants.{CODES};
 ghost use Rattle.field_tower.specs.steps.Places.{IsModulus};
 ghost use Rattle.field_tower.specs.Pairs.{IsPair};
@@ -222,6 +222,8 @@ impl Field for BaseField {
     ghost ops = { ops_of };
 
     ghost inv_of = { inverse_of };
+
+    ghost ring = { base_ring };
 
     ghost laws = { base_field };
 
