@@ -2,10 +2,8 @@ ghost use Rattle.std.specs.Prelude.{◌≡◌, ◌<◌, ◌≤◌, ◌^◌, Matc
 ghost use Rattle.field_tower.specs.declared.size.TheConstants.{CODES};
 ghost use Rattle.residue_field.specs.Prime.{is_listed as is_listed_prime};
 
-use residue_field::Code;
-
-/// How many codes there are: a base field has at most as many elements.
-pub const CODES: usize = Code::MAX as usize + 1;
+/// A base field has at most this many elements.
+pub const CODES: usize = 256;
 
 /// Whether a base field may stand on `p`.
 pub(crate) fn is_listed(p: u32) -> bool

@@ -6,10 +6,10 @@
 pub mod laws;
 
 /// The number of places of a stored element of a top field: its degree is at most this.
-pub const WIDTH: usize = 12;
+pub const WIDTH: usize = 16;
 
 /// The code of an element of a base field: its digits in base `p` are the coefficients, lowest first.
-pub type Code = u8;
+pub type Code = u16;
 
 /// An element of a top field: its coefficients, lowest first, and 0 past the degree of the field.
 #[derive(Clone, Copy)]
