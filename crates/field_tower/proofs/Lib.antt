@@ -7,6 +7,7 @@ pub mod PowerSteps
 pub mod Letter
 pub mod CodeLetter
 pub mod CodeDigits
+pub mod CodeForms
 pub mod BaseValues
 pub mod FilledTables
 pub mod BaseTables

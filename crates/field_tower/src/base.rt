@@ -146,6 +146,9 @@ impl BaseField {
         if k == 0 {
             return 1;
         }
+        if k == 1 {
+            return a;
+        }
         let half = self.power(a, k / 2);
         let square = self.product(half, half);
         if k % 2 == 0 {
