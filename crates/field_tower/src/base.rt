@@ -17,6 +17,7 @@ ghost use Rattle.field_tower.specs.steps.Parts.{IsFaultOf};
 use super::accept::find_pair;
 use super::fault::BaseFault;
 use super::prime::PrimeField;
+use super::row_sums::add_multiple;
 use super::size::{is_listed, size};
 use super::tables::{code_at, negative_row, product_table, sum_table};
 use residue_field::Code;
@@ -264,5 +265,9 @@ impl Field for BaseField {
 
     fn equal(&self, a: Code, b: Code) -> bool {
         a == b
+    }
+
+    fn add_row(&self, out: &mut [Code], i: usize, c: Code, row: &[Code]) {
+        add_multiple(self, out, i, c, row)
     }
 }
