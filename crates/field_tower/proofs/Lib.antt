@@ -7,6 +7,7 @@ pub mod PowerSteps
 pub mod Letter
 pub mod CodeLetter
 pub mod CodeDigits
+pub mod CodeForms
 pub mod BaseValues
 pub mod FilledTables
 pub mod BaseTables
@@ -16,3 +17,5 @@ pub mod Kernels
 pub mod PairValues
 pub mod ConstantValues
 pub mod CodePairs
+pub mod Reciprocal
+pub mod RowValues

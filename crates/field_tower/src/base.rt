@@ -7,7 +7,7 @@ ghost use Rattle.field_tower.specs.steps.Tables.{IsRow, IsTable};
 ghost use Rattle.residue_field.specs.Sizes.{most_codes};
 ghost use Rattle.residue_field.specs.Prime.{is_listed, prime_ops};
 ghost use Rattle.residue_field.specs.Base.{Base, IsBase, base_ops, base_code, ops_of, size_of, inverse_of, letter_code};
-ghost use Rattle.residue_field.proofs.BaseLaws.{base_field};
+ghost use Rattle.residue_field.proofs.BaseLaws.{base_field, base_ring};
 ghost use Rattle.field_tower.specs.declared.size.TheConstants.{CODES};
 ghost use Rattle.field_tower.specs.steps.Places.{IsModulus};
 ghost use Rattle.field_tower.specs.Pairs.{IsPair};
@@ -17,6 +17,7 @@ ghost use Rattle.field_tower.specs.steps.Parts.{IsFaultOf};
 use super::accept::find_pair;
 use super::fault::BaseFault;
 use super::prime::PrimeField;
+use super::row_sums::add_multiple;
 use super::size::{is_listed, size};
 use super::tables::{code_at, negative_row, product_table, sum_table};
 use residue_field::Code;
@@ -146,6 +147,9 @@ impl BaseField {
         if k == 0 {
             return 1;
         }
+        if k == 1 {
+            return a;
+        }
         let half = self.power(a, k / 2);
         let square = self.product(half, half);
         if k % 2 == 0 {
@@ -223,6 +227,8 @@ impl Field for BaseField {
 
     ghost inv_of = { inverse_of };
 
+    ghost ring = { base_ring };
+
     ghost laws = { base_field };
 
     fn is_elem(&self, a: Code) -> bool {
@@ -259,5 +265,9 @@ impl Field for BaseField {
 
     fn equal(&self, a: Code, b: Code) -> bool {
         a == b
+    }
+
+    fn add_row(&self, out: &mut [Code], i: usize, c: Code, row: &[Code]) {
+        add_multiple(self, out, i, c, row)
     }
 }

@@ -13,6 +13,7 @@ mod pair;
 mod places;
 mod prime;
 mod residues;
+mod row_sums;
 mod size;
 mod tables;
 mod tower;

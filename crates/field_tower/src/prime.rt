@@ -1,7 +1,8 @@
 ghost use Rattle.std.specs.Prelude.{◌≡◌, ◌<◌, ◌≤◌, ◌%◌, ◌^◌, MatchOption, true, false};
 ghost use Rattle.field_tower.specs.declared.size.TheConstants.{CODES};
 ghost use Rattle.residue_field.specs.Prime.{is_listed as is_listed_prime, prime_ops, prime_inv};
-ghost use Rattle.residue_field.proofs.Listed.{prime_field};
+ghost use Rattle.residue_field.proofs.Listed.{listed_large, prime_field};
+ghost use Rattle.residue_field.proofs.Modular.{prime_ring};
 
 use super::size::is_listed;
 use residue_field::Code;
@@ -48,6 +49,8 @@ impl Field for PrimeField {
     ghost ops = { λ k. prime_ops k.p };
 
     ghost inv_of = { λ k. prime_inv k.p };
+
+    ghost ring = { λ k. prime_ring k.p (listed_large k.p k.listed) };
 
     ghost laws = { λ k. prime_field k.p k.listed };
 

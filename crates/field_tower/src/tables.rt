@@ -43,6 +43,12 @@ fn code_sum(prime: &PrimeField, modulus: &[Code], a: usize, b: usize) -> Code
     requires right { b < prime.now.p ^ (length modulus.now - 1) }
     ensures { result ≡ (base_ops prime.now.p (length modulus.now - 2) modulus.now).add a b }
 {
+    if prime.p == 2 {
+        return a as Code ^ b as Code;
+    }
+    if modulus.len() == 2 {
+        return ((a + b) % prime.p as usize) as Code;
+    }
     let left = residue_at(prime, modulus, a);
     let right = residue_at(prime, modulus, b);
     code_at(prime, modulus, places::add(prime, modulus, left, right))
@@ -55,6 +61,12 @@ fn code_negative(prime: &PrimeField, modulus: &[Code], a: usize) -> Code
     requires code { a < prime.now.p ^ (length modulus.now - 1) }
     ensures { result ≡ (base_ops prime.now.p (length modulus.now - 2) modulus.now).neg a }
 {
+    if prime.p == 2 {
+        return a as Code;
+    }
+    if modulus.len() == 2 {
+        return ((prime.p as usize - a) % prime.p as usize) as Code;
+    }
     let residue = residue_at(prime, modulus, a);
     code_at(prime, modulus, places::neg(prime, modulus, residue))
 }
@@ -67,6 +79,9 @@ fn code_product(prime: &PrimeField, modulus: &[Code], a: usize, b: usize) -> Cod
     requires right { b < prime.now.p ^ (length modulus.now - 1) }
     ensures { result ≡ (base_ops prime.now.p (length modulus.now - 2) modulus.now).mul a b }
 {
+    if modulus.len() == 2 {
+        return ((a * b) % prime.p as usize) as Code;
+    }
     let left = residue_at(prime, modulus, a);
     let right = residue_at(prime, modulus, b);
     code_at(prime, modulus, places::mul(prime, modulus, left, right))

@@ -3,7 +3,7 @@ ghost use Rattle.ring_core.specs.Ring.{IsElem};
 ghost use Rattle.ring_core.specs.Coeffs.{are_elems, first_values};
 ghost use Rattle.residue_field.specs.Base.{ops_of, size_of};
 ghost use Rattle.residue_field.specs.Top.{Top, IsTop, top_ops, top_code, ops_of_top, inverse_of_top, embed_of, frob_of_top, letter_of};
-ghost use Rattle.residue_field.proofs.TopLaws.{top_field};
+ghost use Rattle.residue_field.proofs.TopLaws.{top_field, top_ring};
 ghost use Rattle.residue_field.proofs.TopFrob.{top_frob_field};
 ghost use Rattle.residue_field.specs.declared.TheConstants.{WIDTH};
 ghost use Rattle.finite_ring.specs.Finite.{HasNoPair};
@@ -160,6 +160,8 @@ impl Field for Tower {
     ghost ops = { ops_of_top };
 
     ghost inv_of = { inverse_of_top };
+
+    ghost ring = { top_ring };
 
     ghost laws = { top_field };
 

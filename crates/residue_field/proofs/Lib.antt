@@ -7,6 +7,7 @@ pub mod DigitLaws
 pub mod TopPlaces
 pub mod Counted
 pub mod BaseLaws
+pub mod BaseForms
 pub mod TopLaws
 pub mod Embedded
 pub mod FrobLaws

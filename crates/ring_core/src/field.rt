@@ -1,7 +1,7 @@
-ghost use Rattle.std.specs.Prelude.{◌≡◌, ℕ, ◌<◌, IfSome, Option, length, true};
-ghost use Rattle.ring_core.specs.Ring.{RingOps, IsElem};
+ghost use Rattle.std.specs.Prelude.{◌≡◌, ℕ, ◌+◌, ◌<◌, ◌≤◌, IfSome, Option, length, true};
+ghost use Rattle.ring_core.specs.Ring.{RingOps, IsElem, IsRing};
 ghost use Rattle.ring_core.specs.Field.{FrobOps, IsField, IsFrobField};
-ghost use Rattle.ring_core.specs.Coeffs.{are_elems};
+ghost use Rattle.ring_core.specs.Coeffs.{coeff, are_elems};
 
 /// A field. No operation takes memory, and each answer is an element.
 pub trait Field {
@@ -12,6 +12,9 @@ pub trait Field {
 
     /// What `inv` answers.
     ghost inv_of: { Self → Self.Elem → Option Self.Elem };
+
+    /// The ring laws of the operations, as the bodies of this trait's own methods cite them: those do not see `laws`.
+    ghost ring: { (k : Self) → IsRing (ops k) };
 
     /// Whether `a` is an element of this field.
     fn is_elem(&self, a: Self::Elem) -> bool
@@ -58,6 +61,24 @@ pub trait Field {
         requires left { IsElem (ops self.now) a }
         requires right { IsElem (ops self.now) b }
         ensures { result ≡ (ops self.now).same a b };
+
+    /// Adds `c` times `row` to `out`, from the place `i` on: `c row[k]` to `out[i + k]`. This body makes one
+    /// product for each member of `row`; a field may have a faster one.
+    fn add_row(&self, out: &mut [Self::Elem], i: usize, c: Self::Elem, row: &[Self::Elem])
+        requires room { i + length row.now ≤ length out.old }
+        requires out { are_elems (ops self.now) out.old ≡ true }
+        requires factor { IsElem (ops self.now) c }
+        requires row { are_elems (ops self.now) row.now ≡ true }
+        ensures elems { are_elems (ops self.now) out.new ≡ true }
+        ensures below { let r = ops self.now in (k : ℕ) → k < i → coeff r out.new k ≡ coeff r out.old k }
+        ensures added { let r = ops self.now in
+            (k : ℕ) → coeff r out.new (i + k) ≡ r.add (coeff r out.old (i + k)) (r.mul c (coeff r row.now k)) }
+    {
+        for j in 0..row.len() {
+            let term = self.mul(c, row[j]);
+            out[i + j] = self.add(out[i + j], term);
+        }
+    }
 
     ghost laws: { (k : Self) → IsField (ops k) (inv_of k) };
 }

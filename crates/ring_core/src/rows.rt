@@ -36,8 +36,8 @@ pub fn extend<K: Field>(field: &K, list: &mut Vec<E<K>>, n: usize) -> Result<(),
     Ok(())
 }
 
-/// Adds `c` times `row` to `out`, from the place `i` on: `c row[k]` to `out[i + k]`. Makes no product
-/// where `c` is zero, and else one for each member of `row`.
+/// Adds `c` times `row` to `out`, from the place `i` on: `c row[k]` to `out[i + k]`. Does nothing where `c` is
+/// zero, and else what the field's `add_row` does.
 pub fn add_scaled<K: Field>(field: &K, out: &mut [E<K>], i: usize, c: E<K>, row: &[E<K>])
     requires room { i + length row.now ≤ length out.old }
     requires out { are_elems (K.ops field.now) out.old ≡ true }
@@ -52,13 +52,7 @@ pub fn add_scaled<K: Field>(field: &K, out: &mut [E<K>], i: usize, c: E<K>, row:
     if field.equal(c, zero) {
         return;
     }
-    for j in 0..row.len() {
-        let old = coeff_at(field, out, i + j);
-        let member = coeff_at(field, row, j);
-        let term = field.mul(c, member);
-        let sum = field.add(old, term);
-        out[i + j] = sum;
-    }
+    field.add_row(out, i, c, row);
 }
 
 /// Whether all members from the place `n` on are zero.

@@ -16,6 +16,8 @@ impl Field for BitField {
 
     ghost inv_of = { λ k. bit_inv };
 
+    ghost ring = { λ k. bit_laws.ring };
+
     fn is_elem(&self, _a: bool) -> bool {
         true
     }

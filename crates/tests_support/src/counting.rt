@@ -54,6 +54,8 @@ impl<'k, K: Field> Field for CountingField<'k, K> {
 
     ghost inv_of = { λ k. K.inv_of k };
 
+    ghost ring = { λ k. K.ring k };
+
     fn is_elem(&self, a: E<K>) -> bool {
         self.field.is_elem(a)
     }
@@ -147,6 +149,8 @@ impl<'k, K: FrobField> Field for CountingTower<'k, K> {
     ghost ops = { λ k. K.ops k };
 
     ghost inv_of = { λ k. K.inv_of k };
+
+    ghost ring = { λ k. K.ring k };
 
     fn is_elem(&self, a: E<K>) -> bool {
         self.field.is_elem(a)

@@ -30,3 +30,8 @@ returns-else-k-eq0-2-clause-value t c =
     c.product.ensures.value
     ∙ ap (λ x. (ops_of k).mul x c.args.a) (c.product-square.ensures.value ∙ ap₂ (ops_of k).mul c.power-half.ensures.value c.power-half.ensures.value)
     ∙ sym (power-odd (ops_of k) (base_ring k) c.args.a c.args.k c.requires odd)
+
+pub returns-then-k-eq1-clause-value : goal.returns-then-k-eq1-clause-value
+returns-then-k-eq1-clause-value t c =
+    let k = c.args.self.now in
+    sym ((base_ring k).one_mul c.args.a c.requires) ∙ ap (power_of (ops_of k) c.args.a) (sym c.if-k-eq1.true)

@@ -1,0 +1,87 @@
+//! Rows of codes added to rows of codes: a base field's row operation.
+ghost use Rattle.std.specs.Prelude.{◌≡◌, ℕ, ◌+◌, ◌/◌, ◌%◌, ◌*◌, ◌<◌, ◌≤◌, bit_xor, length, slice_index_or, true};
+ghost use Rattle.ring_core.specs.Ring.{IsElem};
+ghost use Rattle.ring_core.specs.Coeffs.{coeff, are_elems};
+ghost use Rattle.ring_core.specs.Written.{IsWritten};
+ghost use Rattle.residue_field.specs.Prime.{prime_ops};
+ghost use Rattle.residue_field.specs.Base.{ops_of};
+
+use super::base::BaseField;
+use residue_field::Code;
+use ring_core::Field;
+
+/// Adds `row` to `out`, from the place `i` on, by the exclusive or.
+fn add_binary(out: &mut [Code], i: usize, row: &[Code])
+    requires { i + length row.now ≤ length out.old }
+    ensures { IsWritten 0 i (length row.now) (λ k. bit_xor (slice_index_or out.old (i + k) 0) (slice_index_or row.now k 0)) out.old out.new }
+{
+    for j in 0..row.len() {
+        out[i + j] ^= row[j];
+    }
+}
+
+/// `x` modulo `p`, by the reciprocal `m` of `p` in 23 bits.
+fn remainder(x: u32, p: u32, m: u32) -> u32
+    requires positive { 0 < p }
+    requires reciprocal { m ≡ 8388608 / p }
+    requires fits { x ≤ 8388608 }
+    requires product { x * m < 4294967296 }
+    ensures { result ≡ x % p }
+{
+    let quotient = (x * m) >> 23;
+    let rest = x - quotient * p;
+    if rest < p { rest } else { rest - p }
+}
+
+/// Adds `c` times `row` to `out`, from the place `i` on, modulo `p`.
+fn add_modulo(p: u32, out: &mut [Code], i: usize, c: Code, row: &[Code])
+    requires large { 1 < p }
+    requires small { p ≤ 257 }
+    requires room { i + length row.now ≤ length out.old }
+    requires out { are_elems (prime_ops p) out.old ≡ true }
+    requires factor { IsElem (prime_ops p) c }
+    requires row { are_elems (prime_ops p) row.now ≡ true }
+    ensures { let r = prime_ops p in
+        IsWritten 0 i (length row.now) (λ k. r.add (coeff r out.old (i + k)) (r.mul c (coeff r row.now k))) out.old out.new }
+{
+    let m = 8388608 / p;
+    for j in 0..row.len() {
+        let x = out[i + j] as u32 + c as u32 * row[j] as u32;
+        out[i + j] = remainder(x, p, m) as Code;
+    }
+}
+
+/// Adds `c` times `row` to `out`, from the place `i` on, by the field's own sums and products.
+fn add_each(field: &BaseField, out: &mut [Code], i: usize, c: Code, row: &[Code])
+    requires room { i + length row.now ≤ length out.old }
+    requires out { are_elems (ops_of field.now) out.old ≡ true }
+    requires factor { IsElem (ops_of field.now) c }
+    requires row { are_elems (ops_of field.now) row.now ≡ true }
+    ensures { let r = ops_of field.now in
+        IsWritten r.zero i (length row.now) (λ k. r.add (coeff r out.old (i + k)) (r.mul c (coeff r row.now k))) out.old out.new }
+{
+    for j in 0..row.len() {
+        let term = field.mul(c, row[j]);
+        out[i + j] = field.add(out[i + j], term);
+    }
+}
+
+/// Adds `c` times `row` to `out`, from the place `i` on: by the exclusive or, modulo the prime, or else by the
+/// field's own sums and products.
+pub(super) fn add_multiple(field: &BaseField, out: &mut [Code], i: usize, c: Code, row: &[Code])
+    requires room { i + length row.now ≤ length out.old }
+    requires out { are_elems (ops_of field.now) out.old ≡ true }
+    requires factor { IsElem (ops_of field.now) c }
+    requires row { are_elems (ops_of field.now) row.now ≡ true }
+    ensures { let r = ops_of field.now in
+        IsWritten r.zero i (length row.now) (λ k. r.add (coeff r out.old (i + k)) (r.mul c (coeff r row.now k))) out.old out.new }
+{
+    let p = field.p();
+    if p == 2 && c == 1 {
+        add_binary(out, i, row);
+    } else if field.s() == 1 {
+        add_modulo(p, out, i, c, row);
+    } else {
+        add_each(field, out, i, c, row);
+    }
+}
