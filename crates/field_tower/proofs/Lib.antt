@@ -13,6 +13,8 @@ pub mod FilledTables
 pub mod BaseTables
 pub mod TopValues
 pub mod FrobMap
+pub mod Norm
+pub mod TopNorm
 pub mod Kernels
 pub mod PairValues
 pub mod ConstantValues

@@ -3,5 +3,6 @@ pub mod Places
 pub mod Constants
 pub mod Kernel
 pub mod Images
+pub mod Norm
 pub mod Tables
 pub mod Parts

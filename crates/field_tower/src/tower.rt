@@ -10,6 +10,7 @@ ghost use Rattle.finite_ring.specs.Finite.{HasNoPair};
 ghost use Rattle.field_tower.specs.steps.Places.{IsModulus};
 ghost use Rattle.field_tower.specs.Pairs.{IsPair};
 ghost use Rattle.field_tower.specs.steps.Images.{frob_image};
+ghost use Rattle.field_tower.specs.steps.Norm.{conjugate_product};
 ghost use Rattle.minimal_poly.specs.MinPoly.{IsMinPoly};
 
 use super::accept::find_pair;
@@ -146,6 +147,19 @@ impl Tower {
         Ok(min_poly(alloc, self, c)?)
     }
 
+    /// The product of the conjugates of `a` but `a` itself: times `a` it is the norm, a constant.
+    fn conjugates(&self, a: TopElem) -> TopElem
+        requires { IsElem (ops_of_top self.now) a }
+        ensures value { result ≡ conjugate_product (ops_of_top self.now) (frob_of_top self.now) a (self.now.n - 1) }
+        ensures elem { IsElem (ops_of_top self.now) result }
+    {
+        let mut result = self.one();
+        for _i in 0..self.n - 1 {
+            result = self.frob(self.mul(result, a), 1);
+        }
+        result
+    }
+
     /// The residue of the polynomial `z`.
     pub fn letter(&self) -> TopElem
         ensures { result ≡ letter_of self.now }
@@ -190,16 +204,11 @@ impl Field for Tower {
     }
 
     fn inv(&self, a: TopElem) -> Option<TopElem> {
-        if places::is_zero(&self.base, a) {
-            None
-        } else {
-            Some(places::power_less_two(
-                &self.base,
-                &self.modulus,
-                a,
-                self.base.q(),
-                self.n as usize,
-            ))
+        let others = self.conjugates(a);
+        let norm = self.mul(others, a);
+        match self.base.inv(norm.0[0]) {
+            None => None,
+            Some(d) => Some(self.mul(others, self.embed(d))),
         }
     }
 
