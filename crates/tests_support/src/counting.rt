@@ -7,10 +7,15 @@ use std::cell::Cell;
 use std::marker::Model;
 
 fn count_one(counter: &Cell<u64>) {
-    counter.set(counter.get().wrapping_add(1));
+    count_many(counter, 1);
 }
 
-/// A field that counts its products and its inverses.
+fn count_many(counter: &Cell<u64>, n: usize) {
+    counter.set(counter.get().wrapping_add(n as u64));
+}
+
+/// A field that counts its products and its inverses. A row that is added to another counts as one product for each of its
+/// members, whatever the field has for it.
 #[derive(Drop)]
 pub struct CountingField<'k, K: Field> {
     field: &'k K,
@@ -88,6 +93,11 @@ impl<'k, K: Field> Field for CountingField<'k, K> {
 
     fn equal(&self, a: E<K>, b: E<K>) -> bool {
         self.field.equal(a, b)
+    }
+
+    fn add_row(&self, out: &mut [E<K>], i: usize, c: E<K>, row: &[E<K>]) {
+        count_many(&self.products, row.len());
+        self.field.add_row(out, i, c, row)
     }
 
     ghost laws = { λ k. K.laws k };
@@ -182,6 +192,10 @@ impl<'k, K: FrobField> Field for CountingTower<'k, K> {
 
     fn equal(&self, a: E<K>, b: E<K>) -> bool {
         self.field.equal(a, b)
+    }
+
+    fn add_row(&self, out: &mut [E<K>], i: usize, c: E<K>, row: &[E<K>]) {
+        self.field.add_row(out, i, c, row)
     }
 
     ghost laws = { λ k. K.laws k };
