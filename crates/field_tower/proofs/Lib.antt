@@ -8,6 +8,10 @@ pub mod Letter
 pub mod CodeLetter
 pub mod CodeDigits
 pub mod CodeForms
+pub mod Reciprocal
+pub mod LogSteps
+pub mod KindValues
+pub mod Inverses
 pub mod BaseValues
 pub mod FilledTables
 pub mod BaseTables

@@ -1,6 +1,7 @@
 -- Remainders by a reciprocal: with `m` the quotient of `k` by `p`, the quotient of `x` by `p` is that of `x m` by `k`
 -- or a little more.
 use Rattle.std.proofs.Common.{◌≡◌, ℕ, ◌+◌, ◌-◌, ◌*◌, ◌/◌, ◌%◌, ◌<◌, ◌≤◌, sym, ap, subst, ◌∙◌, arith, mul_assoc, mul_comm, mul_right_comm, mul-add, add-mul, mod-lt, div-mul-le_self, le_of_mul-le-mul_right, lt_of_mul-lt-mul_right}
+use native.Mathlib.Nat.{add-mul-mod_self_left}
 use Rattle.std.proofs.lemmas.Nat.{mul-le, div-add-mod', mod-mul-add}
 
 module _ (k p x m : ℕ) (positive : 0 < p) (is : m ≡ k / p) (some : 0 < k) where
@@ -47,6 +48,14 @@ module _ (k p x m : ℕ) (positive : 0 < p) (is : m ≡ k / p) (some : 0 < k) wh
           let h : k * p ≡ p * k = mul_comm k p in
           let g : x * k < (q * p + (n * p + p)) * k = omega arith in
           lt_of_mul-lt-mul_right k g
+
+  pub remainder_same : (x - x * m / k * p) % p ≡ x % p
+  remainder_same =
+      let q = x * m / k in
+      let low = quotient_low in
+      let turn = mul_comm p q in
+      let whole : x ≡ (x - q * p) + p * q = omega arith in
+      sym (ap (λ n. n % p) whole ∙ add-mul-mod_self_left (x - q * p) p q)
 
 -- what is left after `n` times `p` more is the remainder, once it is below `p`
 pub remainder_is : (p x q n w : ℕ) → q * p + (n * p + w) ≡ x → w < p → w ≡ x % p

@@ -5,4 +5,6 @@ pub mod Kernel
 pub mod Images
 pub mod Norm
 pub mod Tables
+pub mod Logs
+pub mod Kinds
 pub mod Parts
