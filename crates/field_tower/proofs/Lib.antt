@@ -17,3 +17,6 @@ pub mod Kernels
 pub mod PairValues
 pub mod ConstantValues
 pub mod CodePairs
+pub mod Reciprocal
+pub mod LaneValues
+pub mod PlainSums

@@ -5,3 +5,4 @@ pub mod Kernel
 pub mod Images
 pub mod Tables
 pub mod Parts
+pub mod Lanes

@@ -9,6 +9,7 @@ mod base;
 mod codes;
 mod fault;
 mod frobenius;
+mod lanes;
 mod pair;
 mod places;
 mod prime;
