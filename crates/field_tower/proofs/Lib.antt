@@ -20,3 +20,4 @@ pub mod CodePairs
 pub mod Reciprocal
 pub mod LaneValues
 pub mod PlainSums
+pub mod ModularForms

@@ -137,7 +137,14 @@ fn added(sum: u32x16, c: u32, row: u32x16) -> u32x16
 
 /// `sum` and the `n` rows from the place `start` on, each times the coefficient of `c` at its place, modulo
 /// `p`.
-fn combined(sum: u32x16, p: u32, n: usize, rows: &[TopElem], start: usize, c: TopElem) -> TopElem
+pub(crate) fn combined(
+    sum: u32x16,
+    p: u32,
+    n: usize,
+    rows: &[TopElem],
+    start: usize,
+    c: TopElem,
+) -> TopElem
     requires large { 1 < p }
     requires small { p ≤ 257 }
     requires len { length sum ≡ 16 }
@@ -157,7 +164,7 @@ fn combined(sum: u32x16, p: u32, n: usize, rows: &[TopElem], start: usize, c: To
 }
 
 /// The places of `x` between 16 zeros and 16 zeros.
-fn between_zeros(x: TopElem) -> [Code; 48]
+pub(crate) fn between_zeros(x: TopElem) -> [Code; 48]
     ensures before { (k : ℕ) → k < 16 → slice_index_or result k 0 ≡ 0 }
     ensures places { (k : ℕ) → k < 16 → slice_index_or result (16 + k) 0 ≡ place_of x k }
     ensures past { (k : ℕ) → 32 ≤ k → slice_index_or result k 0 ≡ 0 }
@@ -168,7 +175,7 @@ fn between_zeros(x: TopElem) -> [Code; 48]
 }
 
 /// The 16 members from the place `i` on, as lanes.
-fn window(list: &[Code], i: usize) -> u32x16
+pub(crate) fn window(list: &[Code], i: usize) -> u32x16
     requires room { i + 16 ≤ length list.now }
     ensures len { length result ≡ 16 }
     ensures lanes { (j : ℕ) → j < 16 → slice_index_or result j 0 ≡ slice_index_or list.now (i + j) 0 }
@@ -178,7 +185,7 @@ fn window(list: &[Code], i: usize) -> u32x16
 
 /// The sum of the windows of `list` that slide down from the place `from`, each times a coefficient of `a`,
 /// modulo `p`.
-fn slid(p: u32, n: usize, list: &[Code], from: usize, a: TopElem) -> TopElem
+pub(crate) fn slid(p: u32, n: usize, list: &[Code], from: usize, a: TopElem) -> TopElem
     requires large { 1 < p }
     requires small { p ≤ 257 }
     requires room { n ≤ WIDTH }

@@ -10,6 +10,7 @@ mod codes;
 mod fault;
 mod frobenius;
 mod lanes;
+mod modular;
 mod pair;
 mod places;
 mod prime;
