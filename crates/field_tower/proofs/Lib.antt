@@ -21,3 +21,6 @@ pub mod Reciprocal
 pub mod LaneValues
 pub mod PlainSums
 pub mod ModularForms
+pub mod PowerRows
+pub mod Sliding
+pub mod ModularProduct

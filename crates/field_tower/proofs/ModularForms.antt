@@ -18,6 +18,7 @@ use Rattle.residue_field.specs.TopElem.{top_places}
 use Rattle.field_tower.specs.steps.Places.{IsStored}
 use Rattle.field_tower.specs.steps.Images.{image_at, combined_images}
 use Rattle.field_tower.specs.steps.Lanes.{plain_sum, place_of}
+use Rattle.field_tower.proofs.PlainSums.{plain-same}
 
 -- the elements of r are the numbers below p, with the sum and the product modulo p
 pub record IsModular (r : RingOps ℕ) (p : ℕ) : Type 0 where
@@ -72,10 +73,6 @@ none_before z y p e = ap (λ m. m % p) (omega (arith, e))
 pub plain-zero : (n : ℕ) (f : ℕ → ℕ) → ((i : ℕ) → i < n → f i ≡ 0) → plain_sum n f ≡ 0
 plain-zero zero f e = refl
 plain-zero (suc n) f e = omega (arith, plain-zero n f (λ i l. e i (omega arith)), e n (omega arith))
-
-pub plain-same : (n : ℕ) (f g : ℕ → ℕ) → ((i : ℕ) → i < n → f i ≡ g i) → plain_sum n f ≡ plain_sum n g
-plain-same zero f g e = refl
-plain-same (suc n) f g e = ap₂ (λ a b. a + b) (plain-same n f g (λ i l. e i (omega arith))) (e n (omega arith))
 
 module _ (base : Base) (p : ℕ) (is : p ≡ base.p) (one : base.s ≡ 1) where
   pub modular_of : IsModular (ops_of base) p

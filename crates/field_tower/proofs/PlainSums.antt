@@ -1,5 +1,6 @@
 -- Sums of numbers, and the same sums with each sum and product taken modulo `p`.
-use Rattle.std.proofs.Common.{◌≡◌, ℕ, zero, suc, ◌+◌, ◌-◌, ◌*◌, ◌<◌, ◌≤◌, ap, ◌∙◌, arith, add-mul}
+use Rattle.std.proofs.lemmas.Bool.{cases_lt}
+use Rattle.std.proofs.Common.{inl, inr, zero-mul, mul-zero, refl, sym, ap₂, ◌≡◌, ℕ, zero, suc, ◌+◌, ◌-◌, ◌*◌, ◌<◌, ◌≤◌, ap, ◌∙◌, arith, add-mul}
 use Rattle.std.proofs.lemmas.Nat.{mul-le}
 use Rattle.field_tower.specs.steps.Lanes.{plain_sum}
 
@@ -36,3 +37,31 @@ before-le p n s f k l room e =
     let some = plain-le k f b e in
     let all : k * b ≤ n * b = mul-le k b n b l (omega arith) in
     omega arith
+
+pub plain-same : (n : ℕ) (f g : ℕ → ℕ) → ((i : ℕ) → i < n → f i ≡ g i) → plain_sum n f ≡ plain_sum n g
+plain-same zero f g e = refl
+plain-same (suc n) f g e = ap₂ (λ a b. a + b) (plain-same n f g (λ i l. e i (omega arith))) (e n (omega arith))
+
+-- terms that are zero add nothing
+plain-longer : (d n : ℕ) (f : ℕ → ℕ) → ((i : ℕ) → n ≤ i → f i ≡ 0) → plain_sum (n + d) f ≡ plain_sum n f
+plain-longer zero n f e = ap (λ k. plain_sum k f) (omega arith)
+plain-longer (suc d) n f e =
+    let count : n + suc d ≡ suc (n + d) = omega arith in
+    ap (λ k. plain_sum k f) count ∙ omega (arith, plain-longer d n f e, e (n + d) (omega arith))
+
+-- a sum of n terms, of which those of the product are not zero
+pub slid_is : (n k : ℕ) (g a b : ℕ → ℕ) → ((i : ℕ) → n ≤ i → a i ≡ 0) → ((i : ℕ) → i < n → i ≤ k → g i ≡ b (k - i)) → ((i : ℕ) → i < n → k < i → g i ≡ 0)
+    → plain_sum n (λ i. g i * a i) ≡ plain_sum (k + 1) (λ i. b (k - i) * a i)
+slid_is n k g a b past here none =
+    let f : ℕ → ℕ = λ i. g i * a i in
+    let count : n + (k + 1) ≡ (k + 1) + n = omega arith in
+    sym (plain-longer (k + 1) n f (λ i l. times_none (g i) (a i) (past i l)))
+    ∙ ap (λ m. plain_sum m f) count
+    ∙ plain-longer n (k + 1) f (λ i l. elim (cases_lt i n) [ inl m ↦ ap (λ x. x * a i) (none i m (omega arith)) ∙ zero-mul (a i) | inr m ↦ times_none (g i) (a i) (past i m) ])
+    ∙ plain-same (k + 1) f (λ i. b (k - i) * a i) (λ i l. elim (cases_lt i n) [
+      | inl m ↦ ap (λ x. x * a i) (here i m (omega arith))
+      | inr m ↦ times_none (g i) (a i) (past i m) ∙ sym (times_none (b (k - i)) (a i) (past i m))
+    ])
+  where
+    times_none : (x y : ℕ) → y ≡ 0 → x * y ≡ 0
+    times_none x y e = ap (λ z. x * z) e ∙ mul-zero x

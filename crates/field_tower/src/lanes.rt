@@ -3,7 +3,7 @@
 ghost use Rattle.std.specs.Prelude.{◌≡◌, ℕ, ◌+◌, ◌-◌, ◌*◌, ◌/◌, ◌%◌, ◌^◌, ◌<◌, ◌≤◌, cond, nat_lt, length, slice_index_or};
 ghost use Rattle.std.specs.Simd.Lanes.{zip2, chunk, put_chunk};
 ghost use Rattle.residue_field.specs.declared.TheConstants.{WIDTH};
-ghost use Rattle.field_tower.specs.steps.Lanes.{sixteen, plain_sum, place_of};
+ghost use Rattle.field_tower.specs.steps.Lanes.{sixteen, plain_sum, place_of, plain_product};
 ghost use Rattle.field_tower.specs.steps.Images.{image_at};
 
 use residue_field::{Code, TopElem, WIDTH};
@@ -166,8 +166,7 @@ pub(crate) fn combined(
 /// The places of `x` between 16 zeros and 16 zeros.
 pub(crate) fn between_zeros(x: TopElem) -> [Code; 48]
     ensures before { (k : ℕ) → k < 16 → slice_index_or result k 0 ≡ 0 }
-    ensures places { (k : ℕ) → k < 16 → slice_index_or result (16 + k) 0 ≡ place_of x k }
-    ensures past { (k : ℕ) → 32 ≤ k → slice_index_or result k 0 ≡ 0 }
+    ensures places { (k : ℕ) → slice_index_or result (16 + k) 0 ≡ place_of x k }
 {
     let mut wide = [0; 48];
     write_at(&mut wide, 16, x);
@@ -200,4 +199,25 @@ pub(crate) fn slid(p: u32, n: usize, list: &[Code], from: usize, a: TopElem) -> 
         sum = added(sum, a.0[i] as u32, window(list, from - i));
     }
     narrowed(reduced(sum, p))
+}
+
+/// Place by place the plain product of `a` and `b` modulo `p` below `n`, and each of its further coefficients
+/// times a row of `over`.
+pub(crate) fn multiplied(p: u32, n: usize, over: &[TopElem], a: TopElem, b: TopElem) -> TopElem
+    requires large { 1 < p }
+    requires small { p ≤ 257 }
+    requires positive { 0 < n }
+    requires room { n ≤ WIDTH }
+    requires left { (i : ℕ) → place_of a i < p }
+    requires left_past { (i : ℕ) → n ≤ i → place_of a i ≡ 0 }
+    requires right { (i : ℕ) → place_of b i < p }
+    requires over { (k i : ℕ) → k < length over.now → place_of (image_at over.now k) i < p }
+    requires rows { n ≤ length over.now + 1 }
+    ensures below { (j : ℕ) → j < n → place_of result j ≡ (plain_product a b j % p + plain_sum (n - 1) (λ t. place_of (image_at over.now t) j * (plain_product a b (n + t) % p))) % p }
+    ensures past { (j : ℕ) → n ≤ j → j < WIDTH → place_of result j ≡ plain_sum (n - 1) (λ t. place_of (image_at over.now t) j * (plain_product a b (n + t) % p)) % p }
+{
+    let wide = between_zeros(b);
+    let low = slid(p, n, &wide, n, a);
+    let high = slid(p, n, &wide, 16 + n, a);
+    combined(window(&between_zeros(low), 32 - n), p, n - 1, over, 0, high)
 }
