@@ -25,3 +25,9 @@ pub mod ConstantValues
 pub mod CodePairs
 pub mod Reciprocal
 pub mod RowValues
+pub mod LaneValues
+pub mod PlainSums
+pub mod ModularForms
+pub mod PowerRows
+pub mod Sliding
+pub mod ModularProduct

@@ -8,3 +8,4 @@ pub mod Tables
 pub mod Logs
 pub mod Kinds
 pub mod Parts
+pub mod Lanes
