@@ -10,3 +10,4 @@ pub mod Relations
 pub mod Solutions
 pub mod Results
 pub mod Exists
+pub mod Finished

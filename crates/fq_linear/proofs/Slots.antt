@@ -2,7 +2,7 @@
 use Rattle.linear_algebra.specs.steps.Slots.{beside}
 use Rattle.std.proofs.Common.{◌≡◌, ℕ, ◌+◌, ◌-◌, ◌*◌, ◌<◌, ◌≤◌, inl, inr, true, cond, Option, Some, None, nat_eq, List, length, set, refl, sym, ◌∙◌, ap, ap₂, subst, arith, MatchOption, nat_lt, ltb-true, ltb-false, zero-add, get_or-set_same, get_or-set_other}
 use Rattle.std.proofs.lemmas.Bool.{cond_both}
-use Rattle.ring_core.proofs.Carrier.{add_times_zero}
+use Rattle.ring_core.proofs.Carrier.{elements, add_times_zero, neg_zero, zero_mul, add_zero}
 use Rattle.ring_core.specs.Ring.{RingOps, IsElem, IsRing}
 use Rattle.ring_core.specs.Coeffs.{coeff, are_elems}
 use Rattle.ring_core.proofs.Coefficients.{elem_read, coeff_past}
@@ -13,7 +13,6 @@ use Rattle.fq_linear.specs.steps.Places.{cleared, unit_row}
 use Rattle.fq_linear.specs.Table.{row_cells}
 use Rattle.fq_linear.specs.steps.Elimination.{row_number, numbered_cells, slot, IsBelow, HasRowsWithin, augmented}
 use Rattle.fq_linear.proofs.Places.{elems_range, range_past}
-use Rattle.fq_linear.proofs.Tables.{row_end}
 
 module _ {E : Type 0} (r : RingOps E) where
   pub numbered_past : (w : ℕ) (cells : List E) (o : Option ℕ) (k : ℕ) → w ≤ k → coeff r (numbered_cells w w cells o) k ≡ r.zero
@@ -49,6 +48,13 @@ module _ {E : Type 0} (r : RingOps E) (h : IsRing r) where
       subst (λ o. coeff r row k ≡ cleared r j (coeff r (numbered_cells w w cells o)) (coeff r row) k) (sym eo)
       (sym (add_times_zero r h (coeff r row k) _ r.zero (elem_read r row h.closed.zero_in re k)
       (h.closed.neg_in _ (elem_read r row h.closed.zero_in re j)) refl))
+
+  pub cleared_nothing : (j : ℕ) (y : ℕ → E) (row : List E) → are_elems r row ≡ true → ((k : ℕ) → IsElem r (y k)) → coeff r row j ≡ r.zero
+      → (k : ℕ) → coeff r row k ≡ cleared r j y (coeff r row) k
+  cleared_nothing j y row re yi e k =
+      sym (ap (λ a. r.add (coeff r row k) (r.mul (r.neg a) (y k))) e
+      ∙ ap (r.add (coeff r row k)) (ap (λ a. r.mul a (y k)) (ap (λ a. a.0) (neg_zero (elements h))) ∙ ap (λ a. a.0) (zero_mul (elements h) (y k, yi k)))
+      ∙ ap (λ a. a.0) (add_zero (elements h) (coeff r row k, elem_read r row h.closed.zero_in re k)))
 
   -- the row with the unit matrix before it
   pub loaded : (n w i : ℕ) (part before middle after : List E) → length part ≡ w → length after ≡ n + w
@@ -123,22 +129,6 @@ pub augmented_in : {E : Type 0} (r : RingOps E) → IsElem r r.zero → IsElem r
 augmented_in r z o n rows ri i k =
     cond_both (nat_lt k n) (unit_row r i k) (rows i (k - n)) (λ a. IsElem r a)
     (λ _. cond_both (nat_eq i k) r.one r.zero (λ a. IsElem r a) (λ _. o) (λ _. z)) (λ _. ri i (k - n))
-
--- one more row of the cells is cleared
-pub cleared_rows_more : {E : Type 0} (r : RingOps E) (w n l : ℕ) (first before after : List E) (y : ℕ → E) → l < w
-    → IsWritten r.zero (n * w) w (cleared r l y (λ k. coeff r before (n * w + k))) before after
-    → ((i k : ℕ) → i < n → k < w → coeff r before (i * w + k) ≡ cleared r l y (λ m. coeff r first (i * w + m)) k)
-    → ((p : ℕ) → n * w ≤ p → coeff r before p ≡ coeff r first p)
-    → (i k : ℕ) → i < n + 1 → k < w → coeff r after (i * w + k) ≡ cleared r l y (λ m. coeff r first (i * w + m)) k
-cleared_rows_more r w n l first before after y place s done rest i k a b = elim (same_or_other i n) [
-  | inl q ↦
-      subst (λ (i : ℕ). coeff r after (i * w + k) ≡ cleared r l y (λ m. coeff r first (i * w + m)) k) (sym q)
-      (s.inside k b ∙ ap₂ (λ a c. r.add a (r.mul (r.neg c) (y k))) (rest (n * w + k) (omega arith)) (rest (n * w + l) (omega arith)))
-  | inr d ↦
-      let c : i < n = omega arith in
-      let end = row_end w n i c in
-      s.outside (i * w + k) (inl (omega (arith, end))) ∙ done i k c b
-]
 
 pub none_is_not : (i : ℕ) → None ≡ Some i → ⊥
 none_is_not i q = cc

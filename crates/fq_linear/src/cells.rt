@@ -1,6 +1,6 @@
 //! Rows of field elements in slices.
 
-ghost use Rattle.std.specs.Prelude.{◌≡◌, ◌+◌, ◌<◌, ◌≤◌, ℕ, true, length, replicate, IfOk, MatchOption, slice_index_or};
+ghost use Rattle.std.specs.Prelude.{◌≡◌, ◌+◌, ◌<◌, ◌≤◌, ℕ, true, length, replicate, IfOk, slice_index_or};
 ghost use Rattle.ring_core.specs.Ring.{IsElem};
 ghost use Rattle.ring_core.specs.Coeffs.{coeff, are_elems};
 ghost use Rattle.ring_core.specs.Written.{IsWritten};
@@ -36,19 +36,6 @@ pub(super) fn clear_at<F: Field>(f: &F, cells: &mut [E<F>], at: usize, l: usize,
 {
     let c = coeff_at(f, cells, at + l);
     add_scaled(f, cells, at, f.neg(c), &row[..l + 1]);
-}
-
-/// The highest place that is not zero.
-pub(super) fn top_place<F: Field>(f: &F, row: &[E<F>]) -> Option<usize>
-    requires { are_elems (F.ops f.now) row.now ≡ true }
-    ensures { let r = F.ops f.now in MatchOption result ((k : ℕ) → coeff r row.now k ≡ r.zero) (IsHighestPlace r row.now) }
-{
-    for l in (0..row.len()).rev() {
-        if !f.equal(coeff_at(f, row, l), f.zero()) {
-            return Some(l);
-        }
-    }
-    None
 }
 
 /// Multiplies the first `n` places by `c`.

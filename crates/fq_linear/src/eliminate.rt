@@ -1,7 +1,7 @@
-//! The one elimination: rows are inserted one after another into reduced rows, which are found by their
-//! leads.
+//! The one elimination: rows are inserted one after another into rows which are found by their leads. A row
+//! that is kept stays as it is, so it isn't cleared at the leads of the rows after it.
 
-ghost use Rattle.std.specs.Prelude.{◌≡◌, ◌+◌, ◌*◌, ◌<◌, ◌≤◌, ℕ, true, length, None, IfOk};
+ghost use Rattle.std.specs.Prelude.{◌≡◌, ◌≢◌, ◌+◌, ◌*◌, ◌<◌, ◌≤◌, ℕ, true, false, length, None, IfOk, MatchOption};
 ghost use Rattle.ring_core.specs.Ring.{IsElem};
 ghost use Rattle.ring_core.specs.Coeffs.{coeff, are_elems};
 ghost use Rattle.linear_algebra.specs.Combines.{Combines};
@@ -9,74 +9,92 @@ ghost use Rattle.linear_algebra.specs.steps.Slots.{minus};
 ghost use Rattle.linear_algebra.specs.Linear.{entry, are_rows};
 ghost use Rattle.fq_linear.specs.steps.Places.{cleared};
 ghost use Rattle.fq_linear.specs.Table.{row_cells};
-ghost use Rattle.fq_linear.specs.steps.Elimination.{row_number, is_lead, slot, IsReducedTable, IsBelow, CanJoin, IsInserted, augmented, IsEliminated};
+ghost use Rattle.fq_linear.specs.steps.Elimination.{row_number, is_lead, slot, IsLedTable, IsBelow, CanJoin, IsFreeTop, IsInserted, augmented, IsEliminated};
 
-use super::cells::{clear_at, filled, make_monic, top_place, write_at, write_unit};
+use super::cells::{clear_at, filled, make_monic, write_at, write_unit};
 use super::rows::Rows;
+use ring_core::lists::coeff_at;
 use ring_core::rows::zero_list;
 use ring_core::{E, Field, NoMemory};
 use std::alloc::Global;
 
-/// Reduced rows, of the width of `index`, which has at each lead the number of its row in `cells`.
+/// Rows of the width of `index`, which has at each lead the number of its row in `cells`.
 #[derive(Drop)]
-pub(super) struct Reduced<E> {
+pub(super) struct LedRows<E> {
     pub(super) cells: Vec<E>,
     pub(super) index: Vec<Option<usize>>,
 }
 
-/// Clears the row at `j` by the row of the table with lead `j`, where there is one.
+/// Clears the row at `j` by the row of the table with lead `j`. False exactly where it isn't zero there and
+/// there is no such row.
 fn clear_by_slot<F: Field>(
     f: &F,
     j: usize,
     index: &[Option<usize>],
     cells: &[E<F>],
     row: &mut [E<F>],
-)
-    requires table { IsReducedTable (F.ops f.now) (length row.old) index.now cells.now }
+) -> bool
+    requires table { IsLedTable (F.ops f.now) (length row.old) index.now cells.now }
     requires row { are_elems (F.ops f.now) row.old ≡ true }
     requires place { j < length row.old }
     ensures len { length row.new ≡ length row.old }
     ensures elems { are_elems (F.ops f.now) row.new ≡ true }
     ensures cleared { (k : ℕ) → let r = F.ops f.now in coeff r row.new k ≡ cleared r j (slot r (length row.old) index.now cells.now j) (coeff r row.old) k }
+    ensures zero { result ≡ true → coeff (F.ops f.now) row.new j ≡ (F.ops f.now).zero }
+    ensures free { result ≡ false → is_lead index.now j ≡ false }
+    ensures nonzero { result ≡ false → coeff (F.ops f.now) row.new j ≢ (F.ops f.now).zero }
 {
-    let w = row.len();
-    if let Some(i) = index[j] {
-        clear_at(f, row, 0, j, &cells[i * w..i * w + w]);
+    if f.equal(coeff_at(f, row, j), f.zero()) {
+        return true;
     }
+    let Some(i) = index[j] else {
+        return false;
+    };
+    let w = row.len();
+    clear_at(f, row, 0, j, &cells[i * w..i * w + w]);
+    true
 }
 
-/// Clears the row at all leads by the rows of the table.
-pub(super) fn reduce_row<F: Field>(f: &F, index: &[Option<usize>], cells: &[E<F>], row: &mut [E<F>])
-    requires table { IsReducedTable (F.ops f.now) (length row.old) index.now cells.now }
+/// Clears the row at all leads below `top` by the rows of the table, from the highest lead down.
+pub(super) fn reduce_below<F: Field>(
+    f: &F,
+    top: usize,
+    index: &[Option<usize>],
+    cells: &[E<F>],
+    row: &mut [E<F>],
+)
+    requires table { IsLedTable (F.ops f.now) (length row.old) index.now cells.now }
     requires row { are_elems (F.ops f.now) row.old ≡ true }
+    requires top { top ≤ length row.old }
     ensures len { length row.new ≡ length row.old }
     ensures elems { are_elems (F.ops f.now) row.new ≡ true }
-    ensures taken { let r = F.ops f.now in let w = length row.old in Combines r w (slot r w index.now cells.now) (minus r (coeff r row.old) (coeff r row.new)) }
-    ensures clear { (k : ℕ) → is_lead index.now k ≡ true → coeff (F.ops f.now) row.new k ≡ (F.ops f.now).zero }
+    ensures taken { let r = F.ops f.now in Combines r top (slot r (length row.old) index.now cells.now) (minus r (coeff r row.old) (coeff r row.new)) }
+    ensures clear { (k : ℕ) → k < top → is_lead index.now k ≡ true → coeff (F.ops f.now) row.new k ≡ (F.ops f.now).zero }
 {
-    for j in 0..row.len() {
+    for j in (0..top).rev() {
         clear_by_slot(f, j, index, cells, row);
     }
 }
 
-/// Clears place `l` of each of the first `count` rows of the cells by `row`.
-fn clear_rows<F: Field>(f: &F, count: usize, l: usize, cells: &mut [E<F>], row: &[E<F>])
-    requires cells { are_elems (F.ops f.now) cells.old ≡ true }
-    requires row { are_elems (F.ops f.now) row.now ≡ true }
-    requires place { l < length row.now }
-    requires above { (k : ℕ) → l < k → coeff (F.ops f.now) row.now k ≡ (F.ops f.now).zero }
-    requires room { count * length row.now ≤ length cells.old }
-    ensures len { length cells.new ≡ length cells.old }
-    ensures elems { are_elems (F.ops f.now) cells.new ≡ true }
-    ensures cleared { (i k : ℕ) → i < count → k < length row.now → let r = F.ops f.now in let w = length row.now in coeff r cells.new (i * w + k) ≡ cleared r l (coeff r row.now) (λ m. coeff r cells.old (i * w + m)) k }
+/// Clears the row by the rows of the table from its top down, to the first place that isn't zero and is no
+/// lead, and gives that place; None exactly where nothing is left.
+fn reduce_top<F: Field>(f: &F, index: &[Option<usize>], cells: &[E<F>], row: &mut [E<F>]) -> Option<usize>
+    requires table { IsLedTable (F.ops f.now) (length row.old) index.now cells.now }
+    requires row { are_elems (F.ops f.now) row.old ≡ true }
+    ensures len { length row.new ≡ length row.old }
+    ensures elems { are_elems (F.ops f.now) row.new ≡ true }
+    ensures taken { let r = F.ops f.now in let w = length row.old in Combines r w (slot r w index.now cells.now) (minus r (coeff r row.old) (coeff r row.new)) }
+    ensures top { let r = F.ops f.now in MatchOption result ((k : ℕ) → coeff r row.new k ≡ r.zero) (IsFreeTop r index.now row.new) }
 {
-    let w = row.len();
-    for i in 0..count {
-        clear_at(f, cells, i * w, l, row);
+    for j in (0..row.len()).rev() {
+        if !clear_by_slot(f, j, index, cells, row) {
+            return Some(j);
+        }
     }
+    None
 }
 
-/// Keeps `row`, whose lead is `l`, as row `count` of the table, once the rows before are cleared at `l`.
+/// Keeps `row`, whose lead is `l`, as row `count` of the table.
 fn keep_row<F: Field>(
     f: &F,
     count: usize,
@@ -85,17 +103,16 @@ fn keep_row<F: Field>(
     cells: &mut [E<F>],
     row: &[E<F>],
 )
-    requires table { IsReducedTable (F.ops f.now) (length row.now) index.old cells.old }
+    requires table { IsLedTable (F.ops f.now) (length row.now) index.old cells.old }
     requires below { IsBelow count index.old }
     requires room { count * length row.now + length row.now ≤ length cells.old }
     requires row { are_elems (F.ops f.now) row.now ≡ true }
     requires joins { CanJoin (F.ops f.now) index.old row.now l }
     ensures cells_len { length cells.new ≡ length cells.old }
-    ensures table { IsReducedTable (F.ops f.now) (length row.now) index.new cells.new }
+    ensures table { IsLedTable (F.ops f.now) (length row.now) index.new cells.new }
     ensures below { IsBelow (count + 1) index.new }
     ensures inserted { let r = F.ops f.now in let w = length row.now in IsInserted r w (slot r w index.old cells.old) (slot r w index.new cells.new) (coeff r row.now) }
 {
-    clear_rows(f, count, l, cells, row);
     write_at(cells, count * row.len(), row);
     index[l] = Some(count);
 }
@@ -108,19 +125,18 @@ fn insert_row<F: Field>(
     cells: &mut [E<F>],
     row: &mut [E<F>],
 )
-    requires table { IsReducedTable (F.ops f.now) (length row.old) index.old cells.old }
+    requires table { IsLedTable (F.ops f.now) (length row.old) index.old cells.old }
     requires below { IsBelow count index.old }
     requires room { count * length row.old + length row.old ≤ length cells.old }
     requires row { are_elems (F.ops f.now) row.old ≡ true }
     ensures row_len { length row.new ≡ length row.old }
     ensures row_elems { are_elems (F.ops f.now) row.new ≡ true }
     ensures cells_len { length cells.new ≡ length cells.old }
-    ensures table { IsReducedTable (F.ops f.now) (length row.old) index.new cells.new }
+    ensures table { IsLedTable (F.ops f.now) (length row.old) index.new cells.new }
     ensures below { IsBelow (count + 1) index.new }
     ensures inserted { let r = F.ops f.now in let w = length row.old in IsInserted r w (slot r w index.old cells.old) (slot r w index.new cells.new) (coeff r row.old) }
 {
-    reduce_row(f, index, cells, row);
-    let Some(l) = top_place(f, row) else {
+    let Some(l) = reduce_top(f, index, cells, row) else {
         return;
     };
     make_monic(f, l, row);
@@ -157,13 +173,13 @@ fn insert_all<F: Field>(
 }
 
 /// Eliminates the rows with the unit matrix of width `offset` before them. With no unit matrix, `offset` zero,
-/// the table holds an echelon basis of the rows; with one row of it for each row, also the relations.
+/// the table holds rows with the combinations of the rows; with one row of it for each row, also the relations.
 pub(super) fn eliminate<F: Field>(
     alloc: Global,
     f: &F,
     offset: usize,
     rows: &Rows<E<F>>,
-) -> Result<Reduced<E<F>>, NoMemory>
+) -> Result<LedRows<E<F>>, NoMemory>
     requires { are_rows (F.ops f.now) rows.now.width rows.now.rows ≡ true }
     ensures { let r = F.ops f.now in IfOk result (λ t. IsEliminated r (offset + rows.now.width) (length rows.now.rows) (augmented r offset (entry r rows.now.rows)) t.index.items t.cells.items) }
 {
@@ -187,5 +203,5 @@ pub(super) fn eliminate<F: Field>(
         &mut cells,
         &mut row,
     );
-    Ok(Reduced { cells, index })
+    Ok(LedRows { cells, index })
 }

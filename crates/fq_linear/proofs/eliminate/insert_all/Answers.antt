@@ -2,7 +2,7 @@ use Rattle.std.proofs.Common.{◌≡◌, ◌+◌, ◌*◌, ◌<◌, length, sym,
 use Rattle.ring_core.specs.Coeffs.{coeff}
 use Rattle.ring_core.proofs.Coefficients.{elem_read}
 use Rattle.fq_linear.specs.Table.{row_cells}
-use Rattle.fq_linear.specs.steps.Elimination.{slot, IsReducedTable, IsInserted, IsEliminated, augmented}
+use Rattle.fq_linear.specs.steps.Elimination.{slot, IsLedTable, IsInserted, IsEliminated, augmented}
 use Rattle.ring_core.proofs.Written.{elems_written}
 use Rattle.fq_linear.proofs.Places.{elems_range}
 use Rattle.fq_linear.proofs.Tables.{length-row_cells}
@@ -60,7 +60,7 @@ loop-i-preserved g c =
       below = c.insert_row.ensures.below;
       eliminated = eliminated_more r ring (offset + width) i rows c.loop-i.index c.insert_row.new.index c.loop-i.cells c.insert_row.new.cells (coeff r c.write_at.new.cells)
           (augmented_in r z ring.closed.one_in offset _ (λ i. elem_read r (row_cells width source i) z (elems_range r ring source (i * width) (i * width + width) c.requires.source)))
-          before.eliminated (subst (λ w. IsReducedTable r w c.insert_row.new.index c.insert_row.new.cells) wide c.insert_row.ensures.table) loads
+          before.eliminated (subst (λ w. IsLedTable r w c.insert_row.new.index c.insert_row.new.cells) wide c.insert_row.ensures.table) loads
           (subst (λ w. IsInserted r w (slot r w c.loop-i.index c.loop-i.cells) (slot r w c.insert_row.new.index c.insert_row.new.cells) (coeff r c.write_at.new.cells)) wide c.insert_row.ensures.inserted);
     }
 

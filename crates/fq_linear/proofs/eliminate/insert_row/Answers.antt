@@ -15,21 +15,22 @@ returns-in_default-clause-inserted g c =
     let z = ring.closed.zero_in in
     let w = length c.args.row.now in
     let si = slot_in r ring w c.args.index.now c.args.cells.now c.requires.table.elems in
-    inserted_nothing r ring w _ _ si si (coeff r c.args.row.now) (coeff r c.reduce_row.new.row) (elem_read r c.args.row.now z c.requires.row)
-    (elem_read r c.reduce_row.new.row z c.reduce_row.ensures.elems) c.reduce_row.ensures.taken
-    (when_none _ _ c.top_place.result c.in_default.not-Some c.top_place.ensures)
+    inserted_nothing r ring w _ _ si si (coeff r c.args.row.now) (coeff r c.reduce_top.new.row) (elem_read r c.args.row.now z c.requires.row)
+    (elem_read r c.reduce_top.new.row z c.reduce_top.ensures.elems) c.reduce_top.ensures.taken
+    (when_none _ _ c.reduce_top.result c.in_default.not-Some c.reduce_top.ensures.top)
 
 pub keep_row-requires-clause-joins : goal.keep_row-requires-clause-joins
 keep_row-requires-clause-joins g c =
     let r = g.F.Field.ops c.args.f.now in
     let ring = (g.met.F.Field.laws c.args.f.now).ring in
-    let top = c.in-Some.ensures in
+    let free = c.in-Some.ensures.top in
+    let top = free.top in
     let monic = c.make_monic.ensures.monic in
     record {
       within = omega (arith, top.within, c.make_monic.ensures.len);
       one = monic.one;
       above = λ k b. monic.is k ∙ times_zero r ring monic.factor _ monic.elem (top.above k b);
-      clear = λ k m. monic.is k ∙ times_zero r ring monic.factor _ monic.elem (c.reduce_row.ensures.clear k m);
+      free = free.free;
     }
 
 pub returns-clause-inserted : goal.returns-clause-inserted
@@ -42,11 +43,11 @@ returns-clause-inserted g c =
     let index = c.args.index.now in
     let cells = c.args.cells.now in
     let monic = c.make_monic.ensures.monic in
-    let same = c.make_monic.ensures.len ∙ c.reduce_row.ensures.len in
-    let zi = elem_read r c.reduce_row.new.row z c.reduce_row.ensures.elems in
+    let same = c.make_monic.ensures.len ∙ c.reduce_top.ensures.len in
+    let zi = elem_read r c.reduce_top.new.row z c.reduce_top.ensures.elems in
     inserted_from r ring w (slot r w index cells) (slot r w c.keep_row.new.index c.keep_row.new.cells)
     (slot_in r ring w index cells c.requires.table.elems) (slot_in r ring w c.keep_row.new.index c.keep_row.new.cells c.keep_row.ensures.table.elems)
-    (coeff r c.args.row.now) (coeff r c.reduce_row.new.row) (elem_read r c.args.row.now z c.requires.row) zi c.reduce_row.ensures.taken
+    (coeff r c.args.row.now) (coeff r c.reduce_top.new.row) (elem_read r c.args.row.now z c.requires.row) zi c.reduce_top.ensures.taken
     (coeff r c.make_monic.new.row) (elem_read r c.make_monic.new.row z c.make_monic.ensures.elems)
-    monic.factor (coeff r c.reduce_row.new.row c.in-Some.l) monic.elem (zi c.in-Some.l) monic.is monic.back
+    monic.factor (coeff r c.reduce_top.new.row c.in-Some.l) monic.elem (zi c.in-Some.l) monic.is monic.back
     (subst (λ w. IsInserted r w (slot r w index cells) (slot r w c.keep_row.new.index c.keep_row.new.cells) (coeff r c.make_monic.new.row)) same c.keep_row.ensures.inserted)

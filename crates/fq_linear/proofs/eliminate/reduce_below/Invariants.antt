@@ -1,9 +1,9 @@
-use Rattle.std.proofs.Common.{◌≡◌, ℕ, ◌<◌, true, length}
+use Rattle.std.proofs.Common.{◌≡◌, ℕ, ◌<◌, ◌≤◌, true, length}
 use Rattle.ring_core.specs.Coeffs.{coeff, are_elems}
 use Rattle.linear_algebra.specs.Combines.{Combines}
 use Rattle.linear_algebra.specs.steps.Slots.{minus}
 use Rattle.fq_linear.specs.steps.Elimination.{is_lead, slot}
-use Rattle.fq_linear.proofs.eliminate.reduce_row.Given as goal
+use Rattle.fq_linear.proofs.eliminate.reduce_below.Given as goal
 
 abbrev pub invariant-loop-j : goal.invariant-loop-j
 invariant-loop-j g l =
@@ -11,6 +11,6 @@ invariant-loop-j g l =
     record {
       len : length l.row ≡ length l.fn.row;
       elems : are_elems r l.row ≡ true;
-      taken : Combines r (length l.fn.row) (slot r (length l.fn.row) l.index l.cells) (minus r (coeff r l.fn.row) (coeff r l.row));
-      clear : (k : ℕ) → k < l.j → is_lead l.index k ≡ true → coeff r l.row k ≡ r.zero;
+      taken : Combines r l.top (slot r (length l.fn.row) l.index l.cells) (minus r (coeff r l.fn.row) (coeff r l.row));
+      clear : (k : ℕ) → l.j ≤ k → k < l.top → is_lead l.index k ≡ true → coeff r l.row k ≡ r.zero;
     }
