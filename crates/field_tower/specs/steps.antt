@@ -4,5 +4,6 @@ pub mod Constants
 pub mod Kernel
 pub mod Images
 pub mod Norm
+pub mod Bits
 pub mod Tables
 pub mod Parts

@@ -6,12 +6,14 @@
 
 mod accept;
 mod base;
+mod bits;
 mod codes;
 mod fault;
 mod frobenius;
 mod pair;
 mod places;
 mod prime;
+mod products;
 mod residues;
 mod row_sums;
 mod size;
