@@ -1,4 +1,5 @@
 pub mod Rows
+pub mod PackedBits
 pub mod Writes
 pub mod Stored
 pub mod FilledPlaces

@@ -6,6 +6,7 @@
 
 mod accept;
 mod base;
+mod bits;
 mod codes;
 mod fault;
 mod frobenius;
@@ -15,6 +16,7 @@ mod modular;
 mod pair;
 mod places;
 mod prime;
+mod products;
 mod residues;
 mod row_sums;
 mod size;

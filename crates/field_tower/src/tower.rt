@@ -16,8 +16,8 @@ ghost use Rattle.minimal_poly.specs.MinPoly.{IsMinPoly};
 use super::accept::find_pair;
 use super::base::BaseField;
 use super::fault::TowerFault;
-use super::frobenius::{combination, images};
-use super::places;
+use super::frobenius::images;
+use super::{places, products};
 use fq_poly::Poly;
 use minimal_poly::min_poly;
 use residue_field::{Code, TopElem, WIDTH};
@@ -200,7 +200,7 @@ impl Field for Tower {
     }
 
     fn mul(&self, a: TopElem, b: TopElem) -> TopElem {
-        places::mul(&self.base, &self.modulus, a, b)
+        products::mul(&self.base, &self.modulus, a, b)
     }
 
     fn inv(&self, a: TopElem) -> Option<TopElem> {
@@ -240,7 +240,7 @@ impl FrobField for Tower {
 
     fn frob(&self, c: TopElem, i: usize) -> TopElem {
         let n = self.n as usize;
-        combination(&self.base, n, &self.images, i % n * n, c)
+        products::combination(&self.base, n, &self.images, i % n * n, c)
     }
 
     fn coord(&self, c: TopElem, j: usize) -> Code {
