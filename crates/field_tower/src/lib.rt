@@ -10,6 +10,7 @@ mod codes;
 mod fault;
 mod frobenius;
 mod lanes;
+mod letters;
 mod modular;
 mod pair;
 mod places;
