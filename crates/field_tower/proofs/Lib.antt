@@ -32,3 +32,4 @@ pub mod ModularForms
 pub mod PowerRows
 pub mod Sliding
 pub mod ModularProduct
+pub mod LetterRows

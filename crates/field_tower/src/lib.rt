@@ -11,6 +11,7 @@ mod codes;
 mod fault;
 mod frobenius;
 mod lanes;
+mod letters;
 mod logs;
 mod modular;
 mod pair;
