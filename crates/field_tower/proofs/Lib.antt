@@ -24,7 +24,6 @@ pub mod Kernels
 pub mod PairValues
 pub mod ConstantValues
 pub mod CodePairs
-pub mod Reciprocal
 pub mod RowValues
 pub mod LaneValues
 pub mod PlainSums
