@@ -4,13 +4,14 @@
 ghost use Rattle.std.specs.Prelude.{◌≡◌, ℕ, ◌+◌, ◌-◌, ◌<◌, ◌≤◌, MatchOption, IfOk, length, true};
 ghost use Rattle.ring_core.specs.Ring.{IsElem};
 ghost use Rattle.ring_core.specs.Coeffs.{first_values};
+ghost use Rattle.ring_core.specs.Powers.{power_of};
 ghost use Rattle.linear_algebra.specs.Linear.{are_rows};
 ghost use Rattle.finite_ring.specs.Finite.{HasNoPair};
 ghost use Rattle.residue_field.specs.declared.TheConstants.{WIDTH};
 ghost use Rattle.field_tower.specs.steps.Constants.{IsFieldOfCodes};
 ghost use Rattle.field_tower.specs.steps.Places.{IsModulus, stored_ops};
 ghost use Rattle.field_tower.specs.Pairs.{IsPair};
-ghost use Rattle.field_tower.specs.steps.Kernel.{image_of, letter_power, image_row, row_residue, AreLow, IsAbove, low_count, HasLowKernel, IsInKernel};
+ghost use Rattle.field_tower.specs.steps.Kernel.{image_of, letter_power, letter_image, image_row, row_residue, AreLow, IsAbove, low_count, HasLowKernel, IsInKernel};
 
 use super::pair::{factor_pair, power_pair};
 use super::places;
@@ -53,21 +54,41 @@ impl LinearMap {
     }
 }
 
-/// The image of `x`.
+/// The powers by `q` of the powers of the letter below the degree.
+fn letter_images<F: Field<Elem = Code>>(
+    alloc: Global,
+    field: &F,
+    q: u32,
+    modulus: &[Code],
+) -> Result<Vec<TopElem>, NoMemory>
+    requires monic { IsModulus (F.ops field.now) modulus.now }
+    requires constants { IsFieldOfCodes (F.ops field.now) q }
+    ensures { IfOk result (λ v. v.items ≡ first_values (length modulus.now - 1) (letter_image (F.ops field.now) q modulus.now)) }
+{
+    let n = modulus.len() - 1;
+    let mut images = Vec::new(alloc);
+    for j in 0..n {
+        images.push(places::power(field, modulus, unit(field, n, j), q))?;
+    }
+    Ok(images)
+}
+
+/// The image of `x`, whose power by `q` is `power`.
 fn image<F: Field<Elem = Code>>(
     field: &F,
     q: u32,
     modulus: &[Code],
     map: LinearMap,
     x: TopElem,
+    power: TopElem,
 ) -> TopElem
     requires monic { IsModulus (F.ops field.now) modulus.now }
-    requires constants { IsFieldOfCodes (F.ops field.now) q }
     requires elem { IsElem (stored_ops (F.ops field.now) modulus.now) x }
+    requires power { power ≡ power_of (stored_ops (F.ops field.now) modulus.now) x q }
+    requires image { IsElem (stored_ops (F.ops field.now) modulus.now) power }
     ensures value { result ≡ image_of (stored_ops (F.ops field.now) modulus.now) q map x }
     ensures width { length result.0 ≡ WIDTH }
 {
-    let power = places::power(field, modulus, x, q);
     match map {
         LinearMap::Power => power,
         LinearMap::Difference => {
@@ -82,17 +103,19 @@ fn image_rows<F: Field<Elem = Code>>(
     field: &F,
     q: u32,
     modulus: &[Code],
+    powers: &[TopElem],
     map: LinearMap,
 ) -> Result<Rows<Code>, NoMemory>
     requires monic { IsModulus (F.ops field.now) modulus.now }
     requires constants { IsFieldOfCodes (F.ops field.now) q }
+    requires powers { powers.now ≡ first_values (length modulus.now - 1) (letter_image (F.ops field.now) q modulus.now) }
     ensures width { IfOk result (λ v. v.width ≡ length modulus.now - 1) }
     ensures rows { IfOk result (λ v. v.rows ≡ first_values (length modulus.now - 1) (image_row (F.ops field.now) q modulus.now map)) }
 {
     let n = modulus.len() - 1;
     let mut rows = Rows::new(alloc, n);
     for j in 0..n {
-        let image = image(field, q, modulus, map, unit(field, n, j));
+        let image = image(field, q, modulus, map, unit(field, n, j), powers[j]);
         rows.push(&image.0[..n])?;
     }
     Ok(rows)
@@ -147,14 +170,16 @@ fn find_in_kernel<F: Field<Elem = Code>>(
     field: &F,
     q: u32,
     modulus: &[Code],
+    powers: &[TopElem],
     map: LinearMap,
 ) -> Result<Option<TopElem>, NoMemory>
     requires monic { IsModulus (F.ops field.now) modulus.now }
     requires constants { IsFieldOfCodes (F.ops field.now) q }
+    requires powers { powers.now ≡ first_values (length modulus.now - 1) (letter_image (F.ops field.now) q modulus.now) }
     ensures { let r = F.ops field.now in
         IfOk result (λ o. MatchOption o (HasLowKernel r q modulus.now map) (IsInKernel r q modulus.now map)) }
 {
-    let rows = image_rows(alloc, field, q, modulus, map)?;
+    let rows = image_rows(alloc, field, q, modulus, powers, map)?;
     let relations = kernel(alloc, field, &rows)?;
     Ok(find_above(field, modulus.len() - 1, map.low_places(), &relations))
 }
@@ -173,10 +198,11 @@ pub(crate) fn find_pair<F: Field<Elem = Code>>(
     ensures { let t = stored_ops (F.ops field.now) modulus.now in
         IfOk result (λ o. MatchOption o (HasNoPair t) (λ pair. IsPair t pair.0 pair.1)) }
 {
-    if let Some(x) = find_in_kernel(alloc, field, q, modulus, LinearMap::Power)? {
+    let powers = letter_images(alloc, field, q, modulus)?;
+    if let Some(x) = find_in_kernel(alloc, field, q, modulus, &powers, LinearMap::Power)? {
         return Ok(Some(power_pair(field, q, modulus, x)));
     }
-    if let Some(x) = find_in_kernel(alloc, field, q, modulus, LinearMap::Difference)? {
+    if let Some(x) = find_in_kernel(alloc, field, q, modulus, &powers, LinearMap::Difference)? {
         return Ok(Some(factor_pair(field, q, modulus, x)));
     }
     Ok(None)

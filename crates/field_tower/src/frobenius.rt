@@ -9,7 +9,7 @@ ghost use Rattle.field_tower.specs.steps.Images.{frob_image, image_at, combined_
 
 use super::accept::unit;
 use super::base::BaseField;
-use super::places;
+use super::{places, products};
 use residue_field::{Code, TopElem};
 use ring_core::lists::coeff_at;
 use ring_core::{Field, NoMemory};
@@ -31,7 +31,7 @@ fn next_image(base: &BaseField, n: usize, modulus: &[Code], images: &[TopElem], 
     if m < 2 * n {
         return places::power(base, modulus, image, base.q());
     }
-    combination(base, n, images, n, image)
+    products::combination(base, n, images, n, image)
 }
 
 /// The images of the powers of the letter below `n` under the powers of the Frobenius below `n`, where

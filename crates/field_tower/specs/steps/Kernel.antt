@@ -21,6 +21,10 @@ image_of r q Difference x = r.add (power_of r x q) (r.neg x)
 abbrev pub letter_power : RingOps ℕ → ℕ → ℕ → TopElem
 letter_power r n j = residue_unit r (top_places r (n - 1)) j
 
+-- The power by `q` of that residue.
+abbrev pub letter_image : RingOps ℕ → ℕ → List ℕ → ℕ → TopElem
+letter_image r q modulus j = power_of (stored_ops r modulus) (letter_power r (length modulus - 1) j) q
+
 -- The coefficients of the image of that residue.
 abbrev pub image_row : RingOps ℕ → ℕ → List ℕ → LinearMap → ℕ → List ℕ
 image_row r q modulus map j =
