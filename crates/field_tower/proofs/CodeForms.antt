@@ -1,9 +1,10 @@
 -- Sums, negatives and products of codes that need no digits.
-use native.Mathlib.Nat.{pow-zero}
+use native.Mathlib.Nat.{pow-le-pow_right, pow-zero}
 use Rattle.std.proofs.Common.{◌≡◌, ℕ, suc, ◌+◌, ◌-◌, ◌*◌, ◌%◌, ◌^◌, ◌<◌, ◌≤◌, true, List, length, slice_index, bit_xor, sym, ap, ap₂, subst, ◌∙◌, arith, pow-suc}
 use Rattle.residue_field.specs.Prime.{is_listed, prime_ops}
 use Rattle.residue_field.specs.Base.{base_ops}
 use Rattle.residue_field.proofs.BaseLaws.{IsBaseShape}
+use Rattle.residue_field.proofs.Listed.{listed_large}
 use Rattle.residue_field.proofs.BaseForms.{prime_add, prime_mul, prime_neg, add-xor, neg-two}
 use Rattle.field_tower.specs.steps.Places.{IsModulus}
 
@@ -12,6 +13,16 @@ shape_from_modulus p modulus listed monic =
     let degree : 2 ≤ length modulus = monic.degree in
     let place : suc (length modulus - 2) ≡ length modulus - 1 = omega arith in
     record { listed = listed; elems = monic.elems; count = omega arith; top = ap (slice_index modulus) place ∙ monic.monic }
+
+pub modulus_large : (p : ℕ) (modulus : List ℕ) → is_listed p ≡ true → IsModulus (prime_ops p) modulus → (q : ℕ) → q ≡ p ^ (length modulus - 1) → 1 < q
+modulus_large p modulus listed monic q count =
+    let large : 1 < p = listed_large p listed in
+    let positive : 0 < p = omega arith in
+    let degree : 2 ≤ length modulus = monic.degree in
+    let room : 1 ≤ length modulus - 1 = omega arith in
+    let bound : p ^ 1 ≤ p ^ (length modulus - 1) = pow-le-pow_right positive room in
+    let one : p ^ 1 ≡ 1 * p = pow-suc p 0 ∙ ap (λ x. x * p) (pow-zero p) in
+    omega arith
 
 module _ (p : ℕ) (modulus : List ℕ) (listed : is_listed p ≡ true) (monic : IsModulus (prime_ops p) modulus) where
   -- in characteristic two

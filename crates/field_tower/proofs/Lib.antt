@@ -8,6 +8,10 @@ pub mod Letter
 pub mod CodeLetter
 pub mod CodeDigits
 pub mod CodeForms
+pub mod Reciprocal
+pub mod LogSteps
+pub mod KindValues
+pub mod Inverses
 pub mod BaseValues
 pub mod FilledTables
 pub mod BaseTables
@@ -17,5 +21,4 @@ pub mod Kernels
 pub mod PairValues
 pub mod ConstantValues
 pub mod CodePairs
-pub mod Reciprocal
 pub mod RowValues

@@ -4,4 +4,6 @@ pub mod Constants
 pub mod Kernel
 pub mod Images
 pub mod Tables
+pub mod Logs
+pub mod Kinds
 pub mod Parts

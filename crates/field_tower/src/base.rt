@@ -1,9 +1,9 @@
-ghost use Rattle.std.specs.Prelude.{◌≡◌, ◌-◌, ◌+◌, ◌<◌, ◌≤◌, ◌^◌, IfOk, MatchOption, MatchResult, length, slice_index, true};
+ghost use Rattle.std.specs.Prelude.{◌≡◌, ◌≢◌, ◌-◌, ◌+◌, ◌*◌, ◌/◌, ◌%◌, ◌<◌, ◌≤◌, ◌^◌, IfOk, MatchOption, MatchResult, length, slice_index, true, Some};
 ghost use Rattle.ring_core.specs.Ring.{IsElem};
 ghost use Rattle.ring_core.specs.Coeffs.{are_elems};
 ghost use Rattle.ring_core.specs.Powers.{power_of};
 ghost use Rattle.finite_ring.specs.Finite.{HasNoPair};
-ghost use Rattle.field_tower.specs.steps.Tables.{IsRow, IsTable};
+ghost use Rattle.field_tower.specs.steps.Kinds.{AreSums, AreSums-prop, AreProducts, AreProducts-prop};
 ghost use Rattle.residue_field.specs.Sizes.{most_codes};
 ghost use Rattle.residue_field.specs.Prime.{is_listed, prime_ops};
 ghost use Rattle.residue_field.specs.Base.{Base, IsBase, base_ops, base_code, ops_of, size_of, inverse_of, letter_code};
@@ -16,10 +16,11 @@ ghost use Rattle.field_tower.specs.steps.Parts.{IsFaultOf};
 
 use super::accept::find_pair;
 use super::fault::BaseFault;
+use super::logs::{ProductKind, Products, made_products};
 use super::prime::PrimeField;
 use super::row_sums::add_multiple;
 use super::size::{is_listed, size};
-use super::tables::{code_at, negative_row, product_table, sum_table};
+use super::tables::{SumKind, Sums, code_at, code_negative, code_product, code_sum, made_sums};
 use residue_field::Code;
 use ring_core::{Field, NoMemory};
 use std::alloc::Global;
@@ -33,16 +34,16 @@ pub struct BaseField {
     s: u32,
     q: usize,
     modulus: Vec<Code>,
-    // the tables have at most `q^2` members each, and are made once
-    sums: Vec<Code>,
-    products: Vec<Code>,
-    negatives: Vec<Code>,
+    // for remainders modulo p without a division
+    reciprocal: u64,
+    sums: Sums,
+    products: Products,
     ghost is_base: { IsBase p s modulus.items },
     ghost count: { q ≡ p ^ s },
     ghost small: { q ≤ CODES },
-    ghost sum_table: { IsTable q (base_ops p (s - 1) modulus.items).add sums.items },
-    ghost product_table: { IsTable q (base_ops p (s - 1) modulus.items).mul products.items },
-    ghost negative_row: { IsRow q (base_ops p (s - 1) modulus.items).neg negatives.items },
+    ghost reciprocal_is: { reciprocal ≡ 4294967296 / p },
+    ghost are_sums: { AreSums p (s - 1) q modulus.items sums } by { AreSums-prop p (s - 1) q modulus.items sums },
+    ghost are_products: { AreProducts p (s - 1) q modulus.items products } by { AreProducts-prop p (s - 1) q modulus.items products },
 }
 
 impl Model for BaseField {
@@ -64,6 +65,24 @@ fn reduced(alloc: Global, p: u32, modulus: &[u32]) -> Result<Vec<Code>, NoMemory
         list.push((*c % p) as Code)?;
     }
     Ok(list)
+}
+
+/// `x` modulo `p`, for `x` below `2 p`.
+fn less_once(x: u32, p: u32) -> u32
+    requires { x < 2 * p }
+    ensures { result ≡ x % p }
+{
+    if x < p { x } else { x - p }
+}
+
+/// `x` modulo `p` by the reciprocal of `p` in 32 bits, where the quotient is too small by one at most.
+fn remainder(x: u32, p: u32, reciprocal: u64) -> u32
+    requires large { 1 < p }
+    requires reciprocal { reciprocal ≡ 4294967296 / p }
+    ensures { result ≡ x % p }
+{
+    let quotient = ((x as u64 * reciprocal) >> 32) as u32;
+    less_once(x - quotient * p, p)
 }
 
 impl BaseField {
@@ -127,14 +146,78 @@ impl BaseField {
         }
     }
 
-    /// The product of two codes, from the table.
+    /// The sum of two codes, by their digits.
+    fn digit_sum(&self, a: Code, b: Code) -> Code
+        requires left { IsElem (ops_of self.now) a }
+        requires right { IsElem (ops_of self.now) b }
+        ensures { result ≡ (ops_of self.now).add a b }
+    {
+        code_sum(
+            &PrimeField { p: self.p },
+            &self.modulus,
+            a as usize,
+            b as usize,
+        )
+    }
+
+    /// The negative of a code, by its digits.
+    fn digit_negative(&self, a: Code) -> Code
+        requires { IsElem (ops_of self.now) a }
+        ensures { result ≡ (ops_of self.now).neg a }
+    {
+        code_negative(&PrimeField { p: self.p }, &self.modulus, a as usize)
+    }
+
+    /// The product of two codes, by their digits.
+    fn digit_product(&self, a: Code, b: Code) -> Code
+        requires left { IsElem (ops_of self.now) a }
+        requires right { IsElem (ops_of self.now) b }
+        ensures { result ≡ (ops_of self.now).mul a b }
+    {
+        code_product(
+            &PrimeField { p: self.p },
+            &self.modulus,
+            a as usize,
+            b as usize,
+        )
+    }
+
+    /// The product of two codes.
     fn product(&self, a: Code, b: Code) -> Code
         requires left { IsElem (ops_of self.now) a }
         requires right { IsElem (ops_of self.now) b }
         ensures value { result ≡ (ops_of self.now).mul a b }
         ensures elem { IsElem (ops_of self.now) result }
     {
-        self.products[a as usize * self.q + b as usize]
+        match self.products.kind {
+            ProductKind::Modular => {
+                remainder(a as u32 * b as u32, self.p, self.reciprocal) as Code
+            }
+            ProductKind::Logged => {
+                let logs = &self.products.logs;
+                self.products.powers[logs[a as usize] as usize + logs[b as usize] as usize]
+            }
+            ProductKind::Digital => self.digit_product(a, b),
+        }
+    }
+
+    /// The inverse of a nonzero code: the power whose logarithm brings that of `a` to `q - 1`, if the product is one, else the
+    /// power `q - 2`.
+    fn inverse(&self, a: Code) -> Code
+        requires elem { IsElem (ops_of self.now) a }
+        requires nonzero { a ≢ 0 }
+        ensures value { Some result ≡ inverse_of self.now a }
+        ensures elem { IsElem (ops_of self.now) result }
+    {
+        if let ProductKind::Logged = self.products.kind {
+            let inverse = self.products.powers[self.q
+                - 1
+                - self.products.logs[a as usize] as usize];
+            if (inverse as usize) < self.q && self.product(a, inverse) == 1 {
+                return inverse;
+            }
+        }
+        self.power(a, self.q - 2)
     }
 
     /// `a` multiplied `k` times, one for `k = 0`. The inverse can't call `field_power`, whose proof stands on
@@ -200,13 +283,10 @@ fn make_reduced(
         Ok(Some((a, b))) => return Err(BaseFault::ZeroDivisors { a, b }),
         Err(NoMemory) => return Err(BaseFault::NoMemory),
     }
-    let Ok(products) = product_table(alloc, &prime, &modulus, q) else {
+    let Ok(sums) = made_sums(alloc, &prime, &modulus, q) else {
         return Err(BaseFault::NoMemory);
     };
-    let Ok(sums) = sum_table(alloc, &prime, &modulus, q) else {
-        return Err(BaseFault::NoMemory);
-    };
-    let Ok(negatives) = negative_row(alloc, &prime, &modulus, q) else {
+    let Ok(products) = made_products(alloc, &prime, &modulus, q) else {
         return Err(BaseFault::NoMemory);
     };
     Ok(BaseField {
@@ -214,9 +294,9 @@ fn make_reduced(
         s,
         q,
         modulus,
+        reciprocal: 4294967296 / prime.p as u64,
         sums,
         products,
-        negatives,
     })
 }
 
@@ -244,11 +324,21 @@ impl Field for BaseField {
     }
 
     fn add(&self, a: Code, b: Code) -> Code {
-        self.sums[a as usize * self.q + b as usize]
+        match self.sums.kind {
+            SumKind::Modular => less_once(a as u32 + b as u32, self.p) as Code,
+            SumKind::Binary => a ^ b,
+            SumKind::Tabled => self.sums.table[a as usize * self.q + b as usize],
+            SumKind::Digital => self.digit_sum(a, b),
+        }
     }
 
     fn neg(&self, a: Code) -> Code {
-        self.negatives[a as usize]
+        match self.sums.kind {
+            SumKind::Modular => less_once(self.p - a as u32, self.p) as Code,
+            SumKind::Binary => a,
+            SumKind::Tabled => self.sums.negatives[a as usize],
+            SumKind::Digital => self.digit_negative(a),
+        }
     }
 
     fn mul(&self, a: Code, b: Code) -> Code {
@@ -256,11 +346,7 @@ impl Field for BaseField {
     }
 
     fn inv(&self, a: Code) -> Option<Code> {
-        if a == 0 {
-            None
-        } else {
-            Some(self.power(a, self.q - 2))
-        }
+        if a == 0 { None } else { Some(self.inverse(a)) }
     }
 
     fn equal(&self, a: Code, b: Code) -> bool {

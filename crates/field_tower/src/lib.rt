@@ -9,6 +9,7 @@ mod base;
 mod codes;
 mod fault;
 mod frobenius;
+mod logs;
 mod pair;
 mod places;
 mod prime;

@@ -1,6 +1,7 @@
 ghost use Rattle.std.specs.Prelude.{◌≡◌, ℕ, ◌-◌, ◌+◌, ◌*◌, ◌<◌, ◌≤◌, ◌^◌, IfOk, length, slice_index};
 ghost use Rattle.ring_core.specs.Ring.{IsElem};
 ghost use Rattle.field_tower.specs.steps.Tables.{IsRow, IsTable};
+ghost use Rattle.field_tower.specs.steps.Kinds.{AreSums};
 ghost use Rattle.residue_field.specs.Prime.{prime_ops};
 ghost use Rattle.residue_field.specs.Digits.{digit, number as number_of};
 ghost use Rattle.residue_field.specs.Base.{base_ops};
@@ -13,6 +14,31 @@ use super::prime::PrimeField;
 use residue_field::{Code, TopElem};
 use ring_core::NoMemory;
 use std::alloc::Global;
+
+/// The largest base field whose sums are kept in a table of all pairs, if it needs one.
+const TABLED: usize = 256;
+
+/// How a base field adds.
+#[derive(Clone, Copy)]
+pub(crate) enum SumKind {
+    /// Modulo the prime, where the degree is one.
+    Modular,
+    /// By exclusive or, in characteristic two.
+    Binary,
+    /// By tables.
+    Tabled,
+    /// By the digits of the codes.
+    Digital,
+}
+
+/// How a base field adds, with the tables that it needs; those that it doesn't need are empty.
+#[derive(Drop)]
+pub(crate) struct Sums {
+    pub(crate) kind: SumKind,
+    // the sum of `a` and `b` at `a q + b`
+    pub(crate) table: Vec<Code>,
+    pub(crate) negatives: Vec<Code>,
+}
 
 /// The residue of the code `a`.
 fn residue_at(prime: &PrimeField, modulus: &[Code], a: usize) -> TopElem
@@ -36,7 +62,7 @@ pub(crate) fn code_at(prime: &PrimeField, modulus: &[Code], a: TopElem) -> Code
 }
 
 /// The sum of the codes `a` and `b`.
-fn code_sum(prime: &PrimeField, modulus: &[Code], a: usize, b: usize) -> Code
+pub(crate) fn code_sum(prime: &PrimeField, modulus: &[Code], a: usize, b: usize) -> Code
     requires monic { IsModulus (prime_ops prime.now.p) modulus.now }
     requires small { prime.now.p ^ (length modulus.now - 1) ≤ CODES }
     requires left { a < prime.now.p ^ (length modulus.now - 1) }
@@ -55,7 +81,7 @@ fn code_sum(prime: &PrimeField, modulus: &[Code], a: usize, b: usize) -> Code
 }
 
 /// The negative of the code `a`.
-fn code_negative(prime: &PrimeField, modulus: &[Code], a: usize) -> Code
+pub(crate) fn code_negative(prime: &PrimeField, modulus: &[Code], a: usize) -> Code
     requires monic { IsModulus (prime_ops prime.now.p) modulus.now }
     requires small { prime.now.p ^ (length modulus.now - 1) ≤ CODES }
     requires code { a < prime.now.p ^ (length modulus.now - 1) }
@@ -72,7 +98,7 @@ fn code_negative(prime: &PrimeField, modulus: &[Code], a: usize) -> Code
 }
 
 /// The product of the codes `a` and `b`.
-fn code_product(prime: &PrimeField, modulus: &[Code], a: usize, b: usize) -> Code
+pub(crate) fn code_product(prime: &PrimeField, modulus: &[Code], a: usize, b: usize) -> Code
     requires monic { IsModulus (prime_ops prime.now.p) modulus.now }
     requires small { prime.now.p ^ (length modulus.now - 1) ≤ CODES }
     requires left { a < prime.now.p ^ (length modulus.now - 1) }
@@ -88,7 +114,7 @@ fn code_product(prime: &PrimeField, modulus: &[Code], a: usize, b: usize) -> Cod
 }
 
 /// The sums of all pairs of codes.
-pub(crate) fn sum_table(
+fn sum_table(
     alloc: Global,
     prime: &PrimeField,
     modulus: &[Code],
@@ -106,27 +132,8 @@ pub(crate) fn sum_table(
     Ok(table)
 }
 
-/// The products of all pairs of codes.
-pub(crate) fn product_table(
-    alloc: Global,
-    prime: &PrimeField,
-    modulus: &[Code],
-    q: usize,
-) -> Result<Vec<Code>, NoMemory>
-    requires monic { IsModulus (prime_ops prime.now.p) modulus.now }
-    requires count { q ≡ prime.now.p ^ (length modulus.now - 1) }
-    requires small { q ≤ CODES }
-    ensures { IfOk result (λ t. IsTable q (base_ops prime.now.p (length modulus.now - 2) modulus.now).mul t.items) }
-{
-    let mut table = Vec::new(alloc);
-    for m in 0..q * q {
-        table.push(code_product(prime, modulus, m / q, m % q))?;
-    }
-    Ok(table)
-}
-
 /// The negatives of all codes.
-pub(crate) fn negative_row(
+fn negative_row(
     alloc: Global,
     prime: &PrimeField,
     modulus: &[Code],
@@ -142,4 +149,45 @@ pub(crate) fn negative_row(
         row.push(code_negative(prime, modulus, a))?;
     }
     Ok(row)
+}
+
+/// A kind of sums that needs no tables.
+fn without_tables(alloc: Global, kind: SumKind) -> Sums
+    ensures { result.kind ≡ kind }
+{
+    Sums {
+        kind,
+        table: Vec::new(alloc),
+        negatives: Vec::new(alloc),
+    }
+}
+
+/// How the base field of these data adds.
+pub(crate) fn made_sums(
+    alloc: Global,
+    prime: &PrimeField,
+    modulus: &[Code],
+    q: usize,
+) -> Result<Sums, NoMemory>
+    requires monic { IsModulus (prime_ops prime.now.p) modulus.now }
+    requires count { q ≡ prime.now.p ^ (length modulus.now - 1) }
+    requires small { q ≤ CODES }
+    ensures { IfOk result (AreSums prime.now.p (length modulus.now - 2) q modulus.now) }
+{
+    if modulus.len() == 2 {
+        return Ok(without_tables(alloc, SumKind::Modular));
+    }
+    if prime.p == 2 {
+        return Ok(without_tables(alloc, SumKind::Binary));
+    }
+    if q > TABLED {
+        return Ok(without_tables(alloc, SumKind::Digital));
+    }
+    let table = sum_table(alloc, prime, modulus, q)?;
+    let negatives = negative_row(alloc, prime, modulus, q)?;
+    Ok(Sums {
+        kind: SumKind::Tabled,
+        table,
+        negatives,
+    })
 }

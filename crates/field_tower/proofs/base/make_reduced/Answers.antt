@@ -1,6 +1,6 @@
-use Rattle.std.proofs.Common.{length, None, MatchOption, ◌≡◌, ◌-◌, subst}
+use Rattle.std.proofs.Common.{length, None, MatchOption, ◌≡◌, ◌-◌, refl, subst}
 use Rattle.finite_ring.specs.Finite.{HasNoPair}
-use Rattle.field_tower.specs.steps.Tables.{IsRow, IsTable}
+use Rattle.field_tower.specs.steps.Kinds.{AreSums, AreProducts}
 use Rattle.residue_field.specs.Base.{IsBase, base_ops}
 use Rattle.field_tower.specs.Pairs.{IsPair}
 use Rattle.field_tower.proofs.BaseTables.{modulus_of, moved}
@@ -10,17 +10,13 @@ pub code_pair-requires-clause-monic : goal.code_pair-requires-clause-monic
 code_pair-requires-clause-monic c =
     modulus_of c.args.prime.p c.args.s _ _ _ c.deref.ensures.value c.args.prime.listed c.requires.degree c.requires.count c.requires.small c.requires.members c.requires.elems c.requires.monic
 
-pub product_table-requires-clause-monic : goal.product_table-requires-clause-monic
-product_table-requires-clause-monic c =
+pub made_sums-requires-clause-monic : goal.made_sums-requires-clause-monic
+made_sums-requires-clause-monic c =
     modulus_of c.args.prime.p c.args.s _ _ _ c.deref-2.ensures.value c.args.prime.listed c.requires.degree c.requires.count c.requires.small c.requires.members c.requires.elems c.requires.monic
 
-pub sum_table-requires-clause-monic : goal.sum_table-requires-clause-monic
-sum_table-requires-clause-monic c =
+pub made_products-requires-clause-monic : goal.made_products-requires-clause-monic
+made_products-requires-clause-monic c =
     modulus_of c.args.prime.p c.args.s _ _ _ c.deref-3.ensures.value c.args.prime.listed c.requires.degree c.requires.count c.requires.small c.requires.members c.requires.elems c.requires.monic
-
-pub negative_row-requires-clause-monic : goal.negative_row-requires-clause-monic
-negative_row-requires-clause-monic c =
-    modulus_of c.args.prime.p c.args.s _ _ _ c.deref-4.ensures.value c.args.prime.listed c.requires.degree c.requires.count c.requires.small c.requires.members c.requires.elems c.requires.monic
 
 pub invariant_of-result : goal.invariant_of-result
 invariant_of-result c =
@@ -28,11 +24,7 @@ invariant_of-result c =
     let s = c.args.s in
     let q = c.args.q in
     let modulus = c.args.modulus.items in
-    let products = c.in-Ok.products.items in
-    let sums = c.in-Ok-sum_table.sums.items in
-    let negatives = c.in-Ok-negative_row.negatives.items in
     let positive = c.requires.degree in
-    let table = moved (λ n u. IsTable q (base_ops p n u).mul products) _ modulus s c.deref-2.ensures.value c.requires.members c.in-Ok.ensures in
     let w = c.deref.result.now in
     let k = base_ops p (length w - 2) w in
     let answer : c.in-Ok-None.field-0 ≡ None = c.in-Ok-None.field-0-is in
@@ -46,6 +38,6 @@ invariant_of-result c =
       top = c.requires.monic;
       no_pair = no_pair;
     } in
-    let add_table = moved (λ n u. IsTable q (base_ops p n u).add sums) _ modulus s c.deref-3.ensures.value c.requires.members c.in-Ok-sum_table.ensures in
-    let neg_row = moved (λ n u. IsRow q (base_ops p n u).neg negatives) _ modulus s c.deref-4.ensures.value c.requires.members c.in-Ok-negative_row.ensures in
-    (is_base, (c.requires.count, (c.requires.small, (add_table, (table, (neg_row, tt))))))
+    let sums = moved (λ n u. AreSums p n q u c.in-Ok.sums) _ modulus s c.deref-2.ensures.value c.requires.members c.in-Ok.ensures in
+    let products = moved (λ n u. AreProducts p n q u c.in-Ok-made_products.products) _ modulus s c.deref-3.ensures.value c.requires.members c.in-Ok-made_products.ensures in
+    (is_base, (c.requires.count, (c.requires.small, (refl, (sums, (products, tt))))))

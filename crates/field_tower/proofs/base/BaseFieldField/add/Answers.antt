@@ -1,28 +1,62 @@
-use Rattle.std.proofs.Common.{◌^◌, ◌<◌, sym, ap, subst, ◌∙◌, rules}
-use Rattle.residue_field.specs.Base.{ops_of}
-use Rattle.field_tower.proofs.BaseValues.{below_size}
-use Rattle.field_tower.proofs.BaseTables.{table_fits, table-value}
+use Rattle.std.proofs.Common.{◌<◌, ap, ◌∙◌, rules, arith}
+use Rattle.residue_field.specs.Base.{Base, ops_of}
 use Rattle.residue_field.proofs.BaseLaws.{base_ring}
+use Rattle.field_tower.proofs.KindValues.{modular_below, modular-add, sums_are, binary-add, sum_fits, tabled-add}
+use Rattle.field_tower.specs.declared.tables.SumKind.TheVariants as sum
 use Rattle.field_tower.proofs.base.BaseFieldField.add.Goals as goal
+
+pub less_once-requires : goal.less_once-requires
+less_once-requires c =
+    let i = c.self.inside in
+    let here : Base = record { p = i.p; s = i.s; modulus = i.modulus.items; is_base = i.is_base } in
+    let n = c.args.self.now in
+    let one = sums_are here i.q i.count n c.self.view_is i.sums i.are_sums sum.Modular c.in-Modular.is in
+    let left : c.args.a < i.p = modular_below here i.q i.count n c.self.view_is one c.args.a c.requires.left in
+    let right : c.args.b < i.p = modular_below here i.q i.count n c.self.view_is one c.args.b c.requires.right in
+    omega arith
 
 pub index-requires : goal.index-requires
 index-requires c =
-    let a = c.args.a in
-    let b = c.args.b in
-    let count = c.self.inside.count ∙ ap (λ k. k.p ^ k.s) c.self.view_is in
-    let fits =
-    table_fits _ _ _ a b c.self.inside.sum_table (subst (λ n. a < n) (sym count) (below_size c.args.self.now a c.requires.left))
-    (subst (λ n. b < n) (sym count) (below_size c.args.self.now b c.requires.right)) in
+    let i = c.self.inside in
+    let here : Base = record { p = i.p; s = i.s; modulus = i.modulus.items; is_base = i.is_base } in
+    let n = c.args.self.now in
+    let fits = sum_fits here i.q i.count n c.self.view_is i.sums i.are_sums c.in-Tabled.is c.args.a c.args.b c.requires.left c.requires.right in
     search (rules, fits)
 
-pub returns-clause-value : goal.returns-clause-value
-returns-clause-value c =
-    let a = c.args.a in
-    let b = c.args.b in
-    let count = c.self.inside.count ∙ ap (λ k. k.p ^ k.s) c.self.view_is in
-    table-value _ _ _ a b _ c.self.inside.sum_table (subst (λ n. a < n) (sym count) (below_size c.args.self.now a c.requires.left))
-    (subst (λ n. b < n) (sym count) (below_size c.args.self.now b c.requires.right)) c.index.ensures
-    ∙ ap (λ k. (ops_of k).add a b) c.self.view_is
+pub returns-in-Modular-clause-value : goal.returns-in-Modular-clause-value
+returns-in-Modular-clause-value c =
+    let i = c.self.inside in
+    let here : Base = record { p = i.p; s = i.s; modulus = i.modulus.items; is_base = i.is_base } in
+    let n = c.args.self.now in
+    let one = sums_are here i.q i.count n c.self.view_is i.sums i.are_sums sum.Modular c.in-Modular.is in
+    c.less_once.ensures ∙ modular-add here i.q i.count n c.self.view_is one c.args.a c.args.b c.requires.left c.requires.right
 
-pub returns-clause-elem : goal.returns-clause-elem
-returns-clause-elem c = ap (ops_of c.args.self.now).is_elem (returns-clause-value c) ∙ (base_ring c.args.self.now).closed.add_in _ _ c.requires.left c.requires.right
+pub returns-in-Modular-clause-elem : goal.returns-in-Modular-clause-elem
+returns-in-Modular-clause-elem c =
+    ap (ops_of c.args.self.now).is_elem (returns-in-Modular-clause-value c) ∙ (base_ring c.args.self.now).closed.add_in _ _ c.requires.left c.requires.right
+
+pub returns-in-Binary-clause-value : goal.returns-in-Binary-clause-value
+returns-in-Binary-clause-value c =
+    let i = c.self.inside in
+    let here : Base = record { p = i.p; s = i.s; modulus = i.modulus.items; is_base = i.is_base } in
+    let n = c.args.self.now in
+    binary-add here i.q i.count n c.self.view_is (sums_are here i.q i.count n c.self.view_is i.sums i.are_sums sum.Binary c.in-Binary.is) c.args.a c.args.b c.requires.left c.requires.right
+
+pub returns-in-Binary-clause-elem : goal.returns-in-Binary-clause-elem
+returns-in-Binary-clause-elem c =
+    ap (ops_of c.args.self.now).is_elem (returns-in-Binary-clause-value c) ∙ (base_ring c.args.self.now).closed.add_in _ _ c.requires.left c.requires.right
+
+pub returns-in-Tabled-clause-value : goal.returns-in-Tabled-clause-value
+returns-in-Tabled-clause-value c =
+    let i = c.self.inside in
+    let here : Base = record { p = i.p; s = i.s; modulus = i.modulus.items; is_base = i.is_base } in
+    let n = c.args.self.now in
+    tabled-add here i.q i.count n c.self.view_is i.sums i.are_sums c.in-Tabled.is c.args.a c.args.b _ c.requires.left c.requires.right c.index.ensures
+
+pub returns-in-Tabled-clause-elem : goal.returns-in-Tabled-clause-elem
+returns-in-Tabled-clause-elem c =
+    ap (ops_of c.args.self.now).is_elem (returns-in-Tabled-clause-value c) ∙ (base_ring c.args.self.now).closed.add_in _ _ c.requires.left c.requires.right
+
+pub returns-in-Digital-clause-elem : goal.returns-in-Digital-clause-elem
+returns-in-Digital-clause-elem c =
+    ap (ops_of c.args.self.now).is_elem c.digit_sum.ensures ∙ (base_ring c.args.self.now).closed.add_in _ _ c.requires.left c.requires.right
