@@ -20,6 +20,35 @@ fn add_binary(out: &mut [Code], i: usize, row: &[Code])
     }
 }
 
+/// `x` modulo `p`, by the reciprocal `m` of `p` in 16 bits.
+fn short_remainder(x: u16, p: u16, m: u16) -> u16
+    requires large { 1 < p }
+    requires reciprocal { m ≡ 65536 / p }
+    ensures { result ≡ x % p }
+{
+    let quotient = (x as u32 * m as u32 >> 16) as u16;
+    let rest = x - quotient * p;
+    if rest < p { rest } else { rest - p }
+}
+
+/// Adds `c` times `row` to `out`, from the place `i` on, modulo a prime of eight bits.
+fn add_short(p: u16, out: &mut [Code], i: usize, c: Code, row: &[Code])
+    requires large { 1 < p }
+    requires small { p < 256 }
+    requires room { i + length row.now ≤ length out.old }
+    requires out { are_elems (prime_ops p) out.old ≡ true }
+    requires factor { IsElem (prime_ops p) c }
+    requires row { are_elems (prime_ops p) row.now ≡ true }
+    ensures { let r = prime_ops p in
+        IsWritten 0 i (length row.now) (λ k. r.add (coeff r out.old (i + k)) (r.mul c (coeff r row.now k))) out.old out.new }
+{
+    let m = (65536 / p as u32) as u16;
+    for j in 0..row.len() {
+        let x = out[i + j] + c * row[j];
+        out[i + j] = short_remainder(x, p, m);
+    }
+}
+
 /// `x` modulo `p`, by the reciprocal `m` of `p` in 23 bits.
 fn remainder(x: u32, p: u32, m: u32) -> u32
     requires positive { 0 < p }
@@ -34,7 +63,7 @@ fn remainder(x: u32, p: u32, m: u32) -> u32
 }
 
 /// Adds `c` times `row` to `out`, from the place `i` on, modulo `p`.
-fn add_modulo(p: u32, out: &mut [Code], i: usize, c: Code, row: &[Code])
+fn add_wide(p: u32, out: &mut [Code], i: usize, c: Code, row: &[Code])
     requires large { 1 < p }
     requires small { p ≤ 257 }
     requires room { i + length row.now ≤ length out.old }
@@ -48,6 +77,25 @@ fn add_modulo(p: u32, out: &mut [Code], i: usize, c: Code, row: &[Code])
     for j in 0..row.len() {
         let x = out[i + j] as u32 + c as u32 * row[j] as u32;
         out[i + j] = remainder(x, p, m) as Code;
+    }
+}
+
+/// Adds `c` times `row` to `out`, from the place `i` on, modulo `p`. Sixteen bits hold a sum below `256^2`, and are
+/// several times faster than 32.
+fn add_modulo(p: u32, out: &mut [Code], i: usize, c: Code, row: &[Code])
+    requires large { 1 < p }
+    requires small { p ≤ 257 }
+    requires room { i + length row.now ≤ length out.old }
+    requires out { are_elems (prime_ops p) out.old ≡ true }
+    requires factor { IsElem (prime_ops p) c }
+    requires row { are_elems (prime_ops p) row.now ≡ true }
+    ensures { let r = prime_ops p in
+        IsWritten 0 i (length row.now) (λ k. r.add (coeff r out.old (i + k)) (r.mul c (coeff r row.now k))) out.old out.new }
+{
+    if p < 256 {
+        add_short(p as u16, out, i, c, row);
+    } else {
+        add_wide(p, out, i, c, row);
     }
 }
 
