@@ -2,7 +2,7 @@
 ghost use Rattle.std.specs.Prelude.{◌≡◌};
 ghost use Rattle.ring_core.specs.Ring.{IsElem};
 
-use super::fields::first_top;
+use super::fields::{BITS_OF_TWELVE, BYTES_OF_TWELVE, FieldData, first_top};
 use super::modules::module;
 use super::{invalid, no_memory};
 use frobenius_rel::least_relation;
@@ -29,10 +29,9 @@ fn print_time<K: FrobField>(rt: &HostRuntime, k: &K, c: E<K>, count: usize) -> i
     )
 }
 
-/// Measures modules over the top field modulo `c` and these powers of `z`, over the residues modulo 2 and this modulus of
-/// degree `s`. The constant is the letter.
-fn print_field(rt: &HostRuntime, s: u32, modulus: &[u32], powers: &[usize]) -> io::Result<()> {
-    let made = first_top(rt, s, modulus, powers)?;
+/// Measures modules over the top field of the data. The constant is the letter.
+fn print_field(rt: &HostRuntime, data: &FieldData) -> io::Result<()> {
+    let made = first_top(rt, data)?;
     let k = &made.tower;
     println!(rt; "{} elements, degree {}", k.base().q(), k.degree())?;
     let z = k.letter();
@@ -43,8 +42,8 @@ fn print_field(rt: &HostRuntime, s: u32, modulus: &[u32], powers: &[usize]) -> i
     print_time(rt, k, z, 9)
 }
 
-/// Measures the fields of `fields::print_all`.
-pub(super) fn print_all(rt: &HostRuntime, bits: &[u32], bytes: &[u32]) -> io::Result<()> {
-    print_field(rt, 1, bits, &[12, 3])?;
-    print_field(rt, 8, bytes, &[12, 3, 1])
+/// Measures the fields of degree 12 over 2 and over 256 elements.
+pub(super) fn print_all(rt: &HostRuntime) -> io::Result<()> {
+    print_field(rt, &BITS_OF_TWELVE)?;
+    print_field(rt, &BYTES_OF_TWELVE)
 }

@@ -57,17 +57,23 @@ fn no_memory() -> io::Error {
     io::Error::from(io::ErrorKind::OutOfMemory)
 }
 
-/// Runs the kernel of the rows over a field that counts. Its rank is the number of rows less that of
-/// independent relations.
+/// Runs the kernel of the rows twice: over the field, whose time is taken, and over a field around it that counts. The
+/// rank is the number of rows less that of independent relations.
 fn measure<K: Field>(rt: &HostRuntime, field: &K, rows: &Rows<E<K>>) -> io::Result<Cost>
     requires { are_rows (K.ops field.now) rows.now.width rows.now.rows ≡ true }
 {
-    let counting_field = CountingField::new(field);
     let start = Instant::now(rt)?;
-    let Ok(relations) = kernel(rt.alloc(), &counting_field, rows) else {
+    let Ok(timed) = kernel(rt.alloc(), field, rows) else {
         return Err(no_memory());
     };
     let time = start.elapsed(rt)?;
+    let counting_field = CountingField::new(field);
+    let Ok(relations) = kernel(rt.alloc(), &counting_field, rows) else {
+        return Err(no_memory());
+    };
+    if timed.len() != relations.len() {
+        return Err(invalid());
+    }
     Ok(Cost {
         rows: rows.len(),
         width: rows.width(),
@@ -103,13 +109,14 @@ fn residue_products<K: Field>(rt: &HostRuntime, field: &K, c: E<K>, n: usize) ->
 /// `a^8 + a^4 + a^3 + a + 1` over two elements: 256 residues.
 const BYTES: [u32; 9] = [1, 1, 0, 1, 1, 0, 0, 0, 1];
 
-/// `a` over two elements: the two elements themselves.
+/// `a`: the residues are the numbers modulo the prime.
 const BITS: [u32; 2] = [0, 1];
 
-/// The cost of a system over the residues modulo 2 and this modulus of degree `s`, with this many rows,
-/// places of a row, and places of a row that are drawn.
-fn cost_of(rt: &HostRuntime, s: u32, modulus: &[u32], sizes: [usize; 3]) -> io::Result<Cost> {
-    let Ok(field) = BaseField::make(rt.alloc(), 2, s, modulus) else {
+/// The cost of a system over the residues modulo `p` and this modulus, with this many rows, places of a row, and places
+/// of a row that are drawn.
+fn cost_of(rt: &HostRuntime, p: u32, modulus: &[u32], sizes: [usize; 3]) -> io::Result<Cost> {
+    let s = modulus.len().saturating_sub(1) as u32;
+    let Ok(field) = BaseField::make(rt.alloc(), p, s, modulus) else {
         return Err(no_memory());
     };
     let [rows, width, drawn] = sizes;
@@ -135,13 +142,15 @@ fn print(rt: &HostRuntime, name: &str, cost: &Cost) -> io::Result<()> {
     Ok(())
 }
 
-/// Measures a dense system over 256 elements, and a sparse one over two.
+/// Measures a dense system over 256 elements, and sparse ones over two and over 251.
 fn large(rt: &HostRuntime) -> io::Result<bool> {
-    let dense = cost_of(rt, 8, &BYTES, [800, 900, 900])?;
+    let dense = cost_of(rt, 2, &BYTES, [800, 900, 900])?;
     print(rt, "dense, 256 elements", &dense)?;
-    let sparse = cost_of(rt, 1, &BITS, [520, 584, 40])?;
+    let sparse = cost_of(rt, 2, &BITS, [520, 584, 40])?;
     print(rt, "sparse, 2 elements", &sparse)?;
-    Ok(dense.is_within() && sparse.is_within())
+    let numbers = cost_of(rt, 251, &BITS, [520, 584, 40])?;
+    print(rt, "sparse, 251 elements", &numbers)?;
+    Ok(dense.is_within() && sparse.is_within() && numbers.is_within())
 }
 
 /// Compares the products of small systems with the bound, and prints a line that is always the same
@@ -149,8 +158,8 @@ fn large(rt: &HostRuntime) -> io::Result<bool> {
 /// all zeros, whose bound is zero.
 fn small(rt: &HostRuntime) -> io::Result<bool> {
     for sizes in [[40, 45, 45], [45, 40, 40], [40, 45, 5], [40, 45, 0]] {
-        let bytes = cost_of(rt, 8, &BYTES, sizes)?;
-        let bits = cost_of(rt, 1, &BITS, sizes)?;
+        let bytes = cost_of(rt, 2, &BYTES, sizes)?;
+        let bits = cost_of(rt, 2, &BITS, sizes)?;
         if !bytes.is_within() || !bits.is_within() {
             return Ok(false);
         }
@@ -180,19 +189,19 @@ fn run(rt: &HostRuntime) -> io::Result<bool> {
         None => Ok(small(rt)? && small_residues(rt)?),
         Some(word) if word.as_str() == "linear" => large(rt),
         Some(word) if word.as_str() == "fields" => {
-            fields::print_all(rt, &BITS, &BYTES)?;
+            fields::print_all(rt)?;
             Ok(true)
         }
         Some(word) if word.as_str() == "frobenius" => {
-            frobenius::print_all(rt, &BITS, &BYTES)?;
+            frobenius::print_all(rt)?;
             Ok(true)
         }
         Some(word) if word.as_str() == "modules" => {
-            modules::print_all(rt, &BITS)?;
+            modules::print_all(rt)?;
             Ok(true)
         }
         Some(word) if word.as_str() == "reductions" => {
-            reductions::print_all(rt, &BITS)?;
+            reductions::print_all(rt)?;
             Ok(true)
         }
         Some(word) if word.as_str() == "parse" => {

@@ -3,7 +3,7 @@ ghost use Rattle.std.specs.Prelude.{◌≡◌, IfOk};
 ghost use Rattle.ring_core.specs.Ring.{IsElem};
 ghost use Rattle.drinfeld_mod.specs.Module.{IsModule};
 
-use super::fields::first_top;
+use super::fields::{BITS_OF_TWELVE, first_top};
 use super::{invalid, no_memory};
 use drinfeld_mod::{Module, height, image_of, make};
 use fq_poly::PolyRing;
@@ -13,7 +13,12 @@ use std::io;
 use std::time::{Duration, Instant};
 
 /// `c`, and then elements of which each is one more than `c` times the square of the one before it.
-fn coefficients<K: Field>(rt: &HostRuntime, k: &K, c: E<K>, count: usize) -> io::Result<Vec<E<K>>>
+pub(super) fn coefficients<K: Field>(
+    rt: &HostRuntime,
+    k: &K,
+    c: E<K>,
+    count: usize,
+) -> io::Result<Vec<E<K>>>
     requires { IsElem (K.ops k.now) c }
 {
     let mut list = Vec::new(rt.alloc());
@@ -109,9 +114,9 @@ fn print_times<K: FrobField>(rt: &HostRuntime, k: &K, phi: &Module<E<K>>) -> io:
     println!(rt; "  image of degree {degree}: {} us", of_image.as_micros())
 }
 
-/// Measures a module of rank 8 over the top field of degree 12 over these two residues. The constant is the letter.
-pub(super) fn print_all(rt: &HostRuntime, bits: &[u32]) -> io::Result<()> {
-    let made = first_top(rt, 1, bits, &[12, 3])?;
+/// Measures a module of rank 8 over the top field of degree 12 over two elements. The constant is the letter.
+pub(super) fn print_all(rt: &HostRuntime) -> io::Result<()> {
+    let made = first_top(rt, &BITS_OF_TWELVE)?;
     let k = &made.tower;
     println!(rt; "{} elements, degree {}", k.base().q(), k.degree())?;
     let z = k.letter();

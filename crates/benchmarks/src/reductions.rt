@@ -7,7 +7,7 @@ ghost use Rattle.ring_core.specs.Ring.{IsElem};
 ghost use Rattle.ring_core.specs.Coeffs.{are_elems, is_canonical};
 ghost use Rattle.flat_modules.specs.Flat.{are_flat};
 
-use super::fields::first_top;
+use super::fields::{BITS_OF_TWELVE, FieldData, SMALL, first_top};
 use super::random::Random;
 use super::{invalid, no_memory};
 use central_coords::coordinates;
@@ -156,7 +156,7 @@ fn row_operations<K: FrobField>(rt: &HostRuntime, k: &K, phi: &Ore<E<K>>) -> io:
 }
 
 /// How many modules are drawn for each degree and rank.
-const MODULES: u32 = 30;
+const MODULES: u32 = 100;
 
 /// Prints the fewest and the most row operations of drawn modules of this rank, and their mean.
 fn print_rank<K: FrobField>(rt: &HostRuntime, k: &K, rank: usize) -> io::Result<()> {
@@ -177,9 +177,9 @@ fn print_rank<K: FrobField>(rt: &HostRuntime, k: &K, rank: usize) -> io::Result<
     )
 }
 
-/// Counts the row operations over the top field modulo `c` and these powers of `z`, over the two residues modulo 2.
-fn print_field(rt: &HostRuntime, bits: &[u32], powers: &[usize]) -> io::Result<()> {
-    let made = first_top(rt, 1, bits, powers)?;
+/// Counts the row operations over the top field of the data.
+fn print_field(rt: &HostRuntime, data: &FieldData) -> io::Result<()> {
+    let made = first_top(rt, data)?;
     let k = &made.tower;
     println!(rt; "{} elements, degree {}", k.base().q(), k.degree())?;
     print_rank(rt, k, 2)?;
@@ -187,7 +187,7 @@ fn print_field(rt: &HostRuntime, bits: &[u32], powers: &[usize]) -> io::Result<(
 }
 
 /// Counts for the degrees 8 and 12.
-pub(super) fn print_all(rt: &HostRuntime, bits: &[u32]) -> io::Result<()> {
-    print_field(rt, bits, &[8, 4, 3, 1])?;
-    print_field(rt, bits, &[12, 3])
+pub(super) fn print_all(rt: &HostRuntime) -> io::Result<()> {
+    print_field(rt, &SMALL)?;
+    print_field(rt, &BITS_OF_TWELVE)
 }

@@ -1,5 +1,6 @@
 -- The Frobenius of a top field from the images of the powers of the letter.
-use Rattle.std.proofs.Common.{◌≡◌, ℕ, suc, ◌+◌, ◌-◌, ◌*◌, ◌/◌, ◌%◌, ◌^◌, ◌<◌, ◌≤◌, nat_eq, true, List, length, sym, ap, ap₂, subst, ◌∙◌, arith, eqb-true, mul-le-mul_right}
+use native.Mathlib.Nat.{pow-zero}
+use Rattle.std.proofs.Common.{◌≡◌, ℕ, suc, ◌+◌, ◌-◌, ◌*◌, ◌/◌, ◌%◌, ◌^◌, ◌<◌, ◌≤◌, nat_eq, true, List, length, slice_index, slice_index_or, sym, ap, ap₂, subst, ◌∙◌, arith, eqb-true, pow-suc, mul-le-mul_right}
 use Rattle.std.proofs.Math.Nat.{mod-eq_of_lt, div-eq_of_lt, add-div_right, add-mod_right}
 use Rattle.std.proofs.lemmas.Bool.{and_parts, cond_both}
 use Rattle.std.proofs.lemmas.Nat.{div-mul-add, mod-mul-add}
@@ -22,6 +23,7 @@ use Rattle.field_tower.specs.steps.Places.{IsStored, stored}
 use Rattle.field_tower.specs.steps.Images.{frob_image, image_at, combined_images}
 use Rattle.field_tower.proofs.Stored.{stored_from}
 use Rattle.field_tower.proofs.PowerSteps.{power_none, power_size}
+use Rattle.field_tower.proofs.BaseValues.{base-zero}
 use Rattle.field_tower.proofs.TopValues.{top_elems}
 
 pub image-read : (images : List TopElem) (count : ℕ) (f : ℕ → TopElem) → images ≡ first_values count f → (k : ℕ) → k < count → image_at images k ≡ f k
@@ -68,24 +70,83 @@ unfolding top_ops
 stored_elem t a e = e
 
 -- the image of a power of the letter
-pub image_row : (t : Top) (i j : ℕ) → i < t.n → j < t.n
+pub image_row : (t : Top) (i j : ℕ) → j < t.n
     → frob_image t.base t.n t.modulus (i * t.n + j) ≡ (frob_of_top t).frob (residue_unit (ops_of t.base) (top_places (ops_of t.base) (t.n - 1)) j) i
 unfolding frob_image
-image_row t i j l m =
+image_row t i j m =
     let unit = residue_unit (ops_of t.base) (top_places (ops_of t.base) (t.n - 1)) in
     ap₂ (λ a b. power_of (ops_of_top t) (unit a) (size_of t.base ^ b)) (mod-mul-add i t.n j m) (div-mul-add i t.n j m)
 
-module _ (t : Top) (images : List TopElem) (are : images ≡ first_values (t.n * t.n) (frob_image t.base t.n t.modulus)) where
-  positive_degree : 0 < t.n
-  positive_degree = t.is_top.positive
+positive_degree : (t : Top) → 0 < t.n
+positive_degree t = t.is_top.positive
 
+-- the rows of images that a part of the list holds
+module _ (t : Top) (images : List TopElem) (count : ℕ) (are : images ≡ first_values count (frob_image t.base t.n t.modulus)) where
+  pub part_elems : (k : ℕ) → k < length images → are_elems (ops_of t.base) (image_at images k).0 ≡ true
+  part_elems k l =
+      let len : length images ≡ count = images_count images count (frob_image t.base t.n t.modulus) are in
+      let low : k < count = omega arith in
+      ap (λ x. are_elems (ops_of t.base) x.0) (image-read images count (frob_image t.base t.n t.modulus) are k low)
+      ∙ top_elems t _ (image_in t.base t.n t.modulus (positive_degree t) (top_shape_of t) k)
+
+  -- the images are zero past the degree
+  pub part_past : (k i : ℕ) → k < length images → t.n ≤ i → slice_index (image_at images k).0 i ≡ 0
+  part_past k i l past =
+      let len : length images ≡ count = images_count images count (frob_image t.base t.n t.modulus) are in
+      let low : k < count = omega arith in
+      let x = frob_image t.base t.n t.modulus k in
+      let zero = base-zero t.base.p (t.base.s - 1) t.base.modulus in
+      let degree : suc (t.n - 1) ≡ t.n = top_degree t in
+      let e = stored_elem t x (image_in t.base t.n t.modulus (positive_degree t) (top_shape_of t) k) in
+      ap (λ y. slice_index y.0 i) (image-read images count (frob_image t.base t.n t.modulus) are k low)
+      ∙ ap (slice_index_or x.0 i) (sym zero)
+      ∙ (top_stored t.base (t.n - 1) t.modulus (top_shape_of t)).place_past x i e (omega arith) ∙ zero
+
+  combined_is : (c : TopElem) (i l : ℕ) → IsElem (ops_of_top t) c → i * t.n + t.n ≤ count → l < t.n
+      → coeff (ops_of t.base) ((frob_of_top t).frob c i).0 l ≡ combined_images (ops_of t.base) t.n images (i * t.n) c l
+  unfolding combined_images
+  combined_is c i l c_in rows place =
+      let r = ops_of t.base in
+      frob_places t c i l c_in place
+      ∙ sum_same r (base_ring t.base) t.n _ _ (λ j (m : j < t.n).
+      ap (λ x. r.mul (coeff r c.0 j) (coeff r x.0 l))
+      (sym (image-read images count (frob_image t.base t.n t.modulus) are (i * t.n + j) (omega arith) ∙ image_row t i j m)))
+
+  pub part_frob : (c : TopElem) (i : ℕ) → IsElem (ops_of_top t) c → i * t.n + t.n ≤ count
+      → (frob_of_top t).frob c i ≡ stored (ops_of t.base) (t.n - 1) (combined_images (ops_of t.base) t.n images (i * t.n) c)
+  part_frob c i c_in rows =
+      let x = (frob_of_top t).frob c i in
+      let x_in = (top_frob_field t).frob_in c i c_in in
+      let e : IsStored (ops_of t.base) (t.n - 1) x = stored_elem t x x_in in
+      stored_from (ops_of t.base) (t.n - 1) x.0 (combined_images (ops_of t.base) t.n images (i * t.n) c) (eqb-true _ _ (and_parts _ _ e).0)
+      (λ l (m : l < suc (t.n - 1)). combined_is c i l c_in rows (subst (λ d. l < d) (top_degree t) m))
+      (λ l m. (top_stored t.base (t.n - 1) t.modulus (top_shape_of t)).place_past x l e m)
+
+-- an image from the row before it, by the first row
+pub image_mapped : (t : Top) (images : List TopElem) (m : ℕ) → images ≡ first_values m (frob_image t.base t.n t.modulus) → t.n + t.n ≤ m
+    → stored (ops_of t.base) (t.n - 1) (combined_images (ops_of t.base) t.n images t.n (image_at images (m - t.n))) ≡ frob_image t.base t.n t.modulus m
+image_mapped t images m are rows =
+    let positive = positive_degree t in
+    let r = ops_of t.base in
+    let q = size_of t.base in
+    let c = frob_image t.base t.n t.modulus (m - t.n) in
+    let once : t.n ≡ 1 * t.n = omega arith in
+    let first : 1 * t.n + t.n ≤ m = omega arith in
+    let one : q ^ 1 ≡ 1 * q = pow-suc q 0 ∙ ap (λ x. x * q) (pow-zero q) in
+    let same : q ^ 1 ≡ q = omega arith in
+    ap (λ x. stored r (t.n - 1) (combined_images r t.n images t.n x)) (image-read images m (frob_image t.base t.n t.modulus) are (m - t.n) (omega arith))
+    ∙ ap (λ s. stored r (t.n - 1) (combined_images r t.n images s c)) once
+    ∙ sym (part_frob t images m are c 1 (image_in t.base t.n t.modulus positive (top_shape_of t) (m - t.n)) first)
+    ∙ ap (power_of (ops_of_top t) c) same
+    ∙ image_next t.base t.n t.modulus positive (top_shape_of t) (m - t.n) m (omega arith)
+
+module _ (t : Top) (images : List TopElem) (are : images ≡ first_values (t.n * t.n) (frob_image t.base t.n t.modulus)) where
   -- the images are elements
   pub images_elems : (k : ℕ) → k < length images → are_elems (ops_of t.base) (image_at images k).0 ≡ true
-  images_elems k l =
-      let count : length images ≡ t.n * t.n = images_count images (t.n * t.n) (frob_image t.base t.n t.modulus) are in
-      let low : k < t.n * t.n = omega arith in
-      ap (λ x. are_elems (ops_of t.base) x.0) (image-read images (t.n * t.n) (frob_image t.base t.n t.modulus) are k low)
-      ∙ top_elems t _ (image_in t.base t.n t.modulus positive_degree (top_shape_of t) k)
+  images_elems = part_elems t images (t.n * t.n) are
+
+  pub images_past : (k i : ℕ) → k < length images → t.n ≤ i → slice_index (image_at images k).0 i ≡ 0
+  images_past = part_past t images (t.n * t.n) are
 
   -- a row of images stands in the list
   pub row_inside : (i : ℕ) → i < t.n → i * t.n + t.n ≤ length images
@@ -94,34 +155,13 @@ module _ (t : Top) (images : List TopElem) (are : images ≡ first_values (t.n *
       let rows : suc i * t.n ≤ t.n * t.n = mul-le-mul_right t.n l in
       omega arith
 
-  combined_is : (c : TopElem) (i l : ℕ) → IsElem (ops_of_top t) c → i < t.n → l < t.n
-      → coeff (ops_of t.base) ((frob_of_top t).frob c i).0 l ≡ combined_images (ops_of t.base) t.n images (i * t.n) c l
-  unfolding combined_images
-  combined_is c i l c_in low place =
-      let r = ops_of t.base in
-      let rows : suc i * t.n ≤ t.n * t.n = mul-le-mul_right t.n low in
-      frob_places t c i l c_in place
-      ∙ sum_same r (base_ring t.base) t.n _ _ (λ j (m : j < t.n).
-      ap (λ x. r.mul (coeff r c.0 j) (coeff r x.0 l))
-      (sym (image-read images (t.n * t.n) (frob_image t.base t.n t.modulus) are (i * t.n + j) (omega arith) ∙ image_row t i j low m)))
-
-  frob_below : (c : TopElem) (i : ℕ) → IsElem (ops_of_top t) c → i < t.n
-      → (frob_of_top t).frob c i ≡ stored (ops_of t.base) (t.n - 1) (combined_images (ops_of t.base) t.n images (i * t.n) c)
-  frob_below c i c_in low =
-      let x = (frob_of_top t).frob c i in
-      let x_in = (top_frob_field t).frob_in c i c_in in
-      let shape = top_shape_of t in
-      let e : IsStored (ops_of t.base) (t.n - 1) x = stored_elem t x x_in in
-      stored_from (ops_of t.base) (t.n - 1) x.0 (combined_images (ops_of t.base) t.n images (i * t.n) c) (eqb-true _ _ (and_parts _ _ e).0)
-      (λ l (m : l < suc (t.n - 1)). combined_is c i l c_in low (subst (λ d. l < d) (top_degree t) m))
-      (λ l m. (top_stored t.base (t.n - 1) t.modulus shape).place_past x l e m)
-
   frob_map : (c : TopElem) (i : ℕ) → IsElem (ops_of_top t) c
       → stored (ops_of t.base) (t.n - 1) (combined_images (ops_of t.base) t.n images (i % t.n * t.n) c) ≡ (frob_of_top t).frob c i
   frob_map c i c_in =
-      let positive = positive_degree in
+      let positive = positive_degree t in
       let low : i % t.n < t.n = omega arith in
-      sym (frob_below c (i % t.n) c_in low)
+      let rows : suc (i % t.n) * t.n ≤ t.n * t.n = mul-le-mul_right t.n low in
+      sym (part_frob t images (t.n * t.n) are c (i % t.n) c_in (omega arith))
       ∙ frob_mod (ops_of_top t) (ops_of t.base) (frob_of_top t) (top_frob_field t) c i c_in
 
   -- from the fields of a value to the value

@@ -1,4 +1,5 @@
 pub mod Rows
+pub mod PackedBits
 pub mod Writes
 pub mod Stored
 pub mod FilledPlaces
@@ -17,8 +18,17 @@ pub mod FilledTables
 pub mod BaseTables
 pub mod TopValues
 pub mod FrobMap
+pub mod Norm
+pub mod TopNorm
 pub mod Kernels
 pub mod PairValues
 pub mod ConstantValues
 pub mod CodePairs
 pub mod RowValues
+pub mod LaneValues
+pub mod PlainSums
+pub mod ModularForms
+pub mod PowerRows
+pub mod Sliding
+pub mod ModularProduct
+pub mod LetterRows

@@ -1,15 +1,13 @@
 -- The elements of a top field as stored residues.
-use Rattle.std.proofs.Common.{◌≡◌, ℕ, suc, ◌+◌, ◌-◌, ◌^◌, ◌≤◌, true, false, List, length, Some, None, sym, refl, ap, ◌∙◌, arith}
-use Rattle.std.proofs.lemmas.Bool.{cond-true, cond-false}
+use Rattle.std.proofs.Common.{◌≡◌, ℕ, suc, ◌+◌, ◌-◌, ◌≤◌, true, List, length, refl, ap, ◌∙◌, arith}
 use Rattle.ring_core.specs.Ring.{IsElem}
 use Rattle.ring_core.specs.Coeffs.{coeff, are_elems, same_lists}
-use Rattle.ring_core.specs.Powers.{power_of}
 use Rattle.residue_field.specs.declared.TopElem.{TopElem}
 use Rattle.residue_field.specs.declared.TheConstants.{WIDTH}
 use Rattle.residue_field.specs.Residue.{constant_at, residue_ops, residue_letter}
 use Rattle.residue_field.specs.TopElem.{top_places}
-use Rattle.residue_field.specs.Base.{Base, ops_of, size_of}
-use Rattle.residue_field.specs.Top.{Top, top_ops, ops_of_top, inverse_of_top, embed_of, from_coords, letter_of}
+use Rattle.residue_field.specs.Base.{Base, ops_of}
+use Rattle.residue_field.specs.Top.{Top, top_ops, ops_of_top, embed_of, from_coords, letter_of}
 use Rattle.residue_field.proofs.BaseLaws.{base_ring}
 use Rattle.residue_field.proofs.TopPlaces.{elems_of}
 use Rattle.residue_field.proofs.TopLaws.{IsTopShape, top_shape_of}
@@ -30,10 +28,6 @@ module _ (t : Top) where
   unfolding top_ops
   top-same a b = refl
 
-  pub top-same_zero : (a : TopElem) → (top_places (ops_of t.base) (t.n - 1)).same a (stored (ops_of t.base) (t.n - 1) (λ i. (ops_of t.base).zero)) ≡ (ops_of_top t).same a (ops_of_top t).zero
-  unfolding top_ops stored
-  top-same_zero a = refl
-
   pub top-is_elem : (a : TopElem) → (top_places (ops_of t.base) (t.n - 1)).is_elem a ≡ (ops_of_top t).is_elem a
   unfolding top_ops
   top-is_elem a = refl
@@ -49,12 +43,6 @@ module _ (t : Top) where
   pub top_elems : (a : TopElem) → IsElem (ops_of_top t) a → are_elems (ops_of t.base) a.0 ≡ true
   top_elems a e =
       elems_of (ops_of t.base) (base_ring t.base) (t.n - 1) (top_shape_of t).fits a (top-is_elem a ∙ e)
-
-  pub inverse_nothing : (a : TopElem) → (ops_of_top t).same a (ops_of_top t).zero ≡ true → None ≡ inverse_of_top t a
-  inverse_nothing a e = sym (cond-true _ None (Some (power_of (ops_of_top t) a (size_of t.base ^ t.n - 2))) e)
-
-  pub inverse_power : (a b : TopElem) → (ops_of_top t).same a (ops_of_top t).zero ≡ false → b ≡ power_of (ops_of_top t) a (size_of t.base ^ t.n - 2) → Some b ≡ inverse_of_top t a
-  inverse_power a b e is = ap Some is ∙ sym (cond-false _ None (Some (power_of (ops_of_top t) a (size_of t.base ^ t.n - 2))) e)
 
 module _ (base : Base) (n : ℕ) (modulus : List ℕ) (len : length modulus ≡ n + 1) where
   -- the ring of stored residues is that of the top field

@@ -3,7 +3,10 @@ pub mod Places
 pub mod Constants
 pub mod Kernel
 pub mod Images
+pub mod Norm
+pub mod Bits
 pub mod Tables
 pub mod Logs
 pub mod Kinds
 pub mod Parts
+pub mod Lanes

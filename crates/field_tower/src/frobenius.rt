@@ -3,6 +3,7 @@ ghost use Rattle.ring_core.specs.Ring.{IsElem};
 ghost use Rattle.ring_core.specs.Coeffs.{are_elems, first_values};
 ghost use Rattle.residue_field.specs.declared.TheConstants.{WIDTH};
 ghost use Rattle.residue_field.specs.Base.{ops_of};
+ghost use Rattle.residue_field.specs.Top.{IsTop};
 ghost use Rattle.field_tower.specs.steps.Places.{IsModulus, stored};
 ghost use Rattle.field_tower.specs.steps.Images.{frob_image, image_at, combined_images};
 
@@ -15,10 +16,11 @@ use ring_core::{Field, NoMemory};
 use std::alloc::Global;
 
 /// The image that comes after the first `m` images: a power of the letter, or the power by `q` of the
-/// image `n` places before.
+/// image `n` places before, which is linear in its coefficients once the powers of all letters are known.
 fn next_image(base: &BaseField, n: usize, modulus: &[Code], images: &[TopElem], m: usize) -> TopElem
     requires monic { IsModulus (ops_of base.now) modulus.now }
     requires degree { length modulus.now ≡ n + 1 }
+    requires top { IsTop base.now n modulus.now }
     requires before { images.now ≡ first_values m (frob_image base.now n modulus.now) }
     ensures { result ≡ frob_image base.now n modulus.now m }
 {
@@ -26,7 +28,10 @@ fn next_image(base: &BaseField, n: usize, modulus: &[Code], images: &[TopElem], 
         return unit(base, n, m);
     }
     let image = images[m - n];
-    places::power(base, modulus, image, base.q())
+    if m < 2 * n {
+        return places::power(base, modulus, image, base.q());
+    }
+    combination(base, n, images, n, image)
 }
 
 /// The images of the powers of the letter below `n` under the powers of the Frobenius below `n`, where
@@ -39,6 +44,7 @@ pub(crate) fn images(
 ) -> Result<Vec<TopElem>, NoMemory>
     requires monic { IsModulus (ops_of base.now) modulus.now }
     requires degree { length modulus.now ≡ n + 1 }
+    requires top { IsTop base.now n modulus.now }
     ensures { IfOk result (λ v. v.items ≡ first_values (n * n) (frob_image base.now n modulus.now)) }
 {
     let mut images = Vec::new(alloc);

@@ -158,6 +158,9 @@ pub(crate) fn power<F: Field<Elem = Code>>(
     if k == 0 {
         return one(field);
     }
+    if k == 1 {
+        return a;
+    }
     let half = power(field, modulus, a, k / 2);
     let square = mul(field, modulus, half, half);
     if k % 2 == 0 {
@@ -165,35 +168,6 @@ pub(crate) fn power<F: Field<Elem = Code>>(
     } else {
         mul(field, modulus, square, a)
     }
-}
-
-/// The power of the residue `a` by `q^n - 2`, in base `q`: each digit of the exponent is `q - 1`, but
-/// the lowest is `q - 2`.
-pub(crate) fn power_less_two<F: Field<Elem = Code>>(
-    field: &F,
-    modulus: &[Code],
-    a: TopElem,
-    q: u32,
-    n: usize,
-) -> TopElem
-    requires monic { IsModulus (F.ops field.now) modulus.now }
-    requires size { 2 ≤ q }
-    requires positive { 0 < n }
-    requires elem { IsElem (stored_ops (F.ops field.now) modulus.now) a }
-    ensures value { result ≡ power_of (stored_ops (F.ops field.now) modulus.now) a (q ^ n - 2) }
-    ensures elem { IsElem (stored_ops (F.ops field.now) modulus.now) result }
-{
-    let digit = power(field, modulus, a, q - 1);
-    let mut result = one(field);
-    for _i in 0..n - 1 {
-        result = mul(field, modulus, power(field, modulus, result, q), digit);
-    }
-    mul(
-        field,
-        modulus,
-        power(field, modulus, result, q),
-        power(field, modulus, a, q - 2),
-    )
 }
 
 /// The residue of the letter. Modulo a polynomial of degree 1 it is minus the constant of the modulus.

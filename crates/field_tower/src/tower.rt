@@ -10,13 +10,14 @@ ghost use Rattle.finite_ring.specs.Finite.{HasNoPair};
 ghost use Rattle.field_tower.specs.steps.Places.{IsModulus};
 ghost use Rattle.field_tower.specs.Pairs.{IsPair};
 ghost use Rattle.field_tower.specs.steps.Images.{frob_image};
+ghost use Rattle.field_tower.specs.steps.Norm.{conjugate_product};
 ghost use Rattle.minimal_poly.specs.MinPoly.{IsMinPoly};
 
 use super::accept::find_pair;
 use super::base::BaseField;
 use super::fault::TowerFault;
-use super::frobenius::{combination, images};
-use super::places;
+use super::frobenius::images;
+use super::{places, products};
 use fq_poly::Poly;
 use minimal_poly::min_poly;
 use residue_field::{Code, TopElem, WIDTH};
@@ -146,6 +147,19 @@ impl Tower {
         Ok(min_poly(alloc, self, c)?)
     }
 
+    /// The product of the conjugates of `a` but `a` itself: times `a` it is the norm, a constant.
+    fn conjugates(&self, a: TopElem) -> TopElem
+        requires { IsElem (ops_of_top self.now) a }
+        ensures value { result ≡ conjugate_product (ops_of_top self.now) (frob_of_top self.now) a (self.now.n - 1) }
+        ensures elem { IsElem (ops_of_top self.now) result }
+    {
+        let mut result = self.one();
+        for _i in 0..self.n - 1 {
+            result = self.frob(self.mul(result, a), 1);
+        }
+        result
+    }
+
     /// The residue of the polynomial `z`.
     pub fn letter(&self) -> TopElem
         ensures { result ≡ letter_of self.now }
@@ -186,20 +200,15 @@ impl Field for Tower {
     }
 
     fn mul(&self, a: TopElem, b: TopElem) -> TopElem {
-        places::mul(&self.base, &self.modulus, a, b)
+        products::mul(&self.base, &self.modulus, a, b)
     }
 
     fn inv(&self, a: TopElem) -> Option<TopElem> {
-        if places::is_zero(&self.base, a) {
-            None
-        } else {
-            Some(places::power_less_two(
-                &self.base,
-                &self.modulus,
-                a,
-                self.base.q(),
-                self.n as usize,
-            ))
+        let others = self.conjugates(a);
+        let norm = self.mul(others, a);
+        match self.base.inv(norm.0[0]) {
+            None => None,
+            Some(d) => Some(self.mul(others, self.embed(d))),
         }
     }
 
@@ -231,7 +240,7 @@ impl FrobField for Tower {
 
     fn frob(&self, c: TopElem, i: usize) -> TopElem {
         let n = self.n as usize;
-        combination(&self.base, n, &self.images, i % n * n, c)
+        products::combination(&self.base, n, &self.images, i % n * n, c)
     }
 
     fn coord(&self, c: TopElem, j: usize) -> Code {

@@ -1,14 +1,13 @@
 -- Rows have reduced rows with the same combinations, and so there is an echelon basis of their relations. Nothing is
 -- computed: the rows are inserted one after another, as functions of the place.
 use Rattle.std.proofs.Common.{◌≡◌, ◌≢◌, ℕ, zero, suc, ◌+◌, ◌-◌, ◌<◌, ◌≤◌, ◌⊎◌, inl, inr, Option, Bool, true, false, cond, nat_eq, List, length, map, refl, sym, ◌∙◌, ap, arith, eq-eqb, ne_eqb}
-use Rattle.std.proofs.lemmas.Bool.{and_from}
 use Rattle.ring_core.specs.Ring.{RingOps, IsRing}
 use Rattle.ring_core.specs.Field.{IsField}
-use Rattle.ring_core.specs.Coeffs.{coeff, first_values}
+use Rattle.ring_core.specs.Coeffs.{first_values}
 use Rattle.ring_core.proofs.Carrier.{RingOn, Element, elements, same_element, mul_zero}
-use Rattle.ring_core.proofs.Coefficients.{coeff_past, coeff-first_values, elems-first_values}
-use Rattle.ring_core.proofs.FirstValues.{length-first_values}
-use Rattle.linear_algebra.specs.Linear.{row_at, entry, is_row, are_rows, IsRelation, IsEchelonBasis}
+use Rattle.ring_core.proofs.Coefficients.{coeff_past}
+use Rattle.linear_algebra.specs.Linear.{row_at, entry, are_rows, IsRelation, IsEchelonBasis}
+use Rattle.linear_algebra.specs.steps.Slots.{AreReducedSlots}
 use Rattle.linear_algebra.proofs.Sums.{combine, unit, total_zero, total_single, by_bool, same_or_other}
 use Rattle.linear_algebra.proofs.Spans.{Spans, minus_self, minus_plus, span_zero, span_add, span_scale, span_minus, span_row, span_into, span_as}
 use Rattle.linear_algebra.proofs.Slots.{Reduced}
@@ -17,6 +16,7 @@ use Rattle.linear_algebra.proofs.Augment.{augmented, Eliminates, beside_past}
 use Rattle.linear_algebra.proofs.Gather.{leads}
 use Rattle.linear_algebra.proofs.Lift.{AllIn, rows_of, from_reduced}
 use Rattle.linear_algebra.proofs.RowLists.{row_len, rows_at, rows_in}
+use Rattle.fq_linear.proofs.Gathered.{low_shape, low_same}
 use Rattle.fq_linear.proofs.Basis.{basis_of}
 use Rattle.fq_linear.proofs.Relations.{kernel_spans}
 use Rattle.fq_linear.proofs.Solutions.{inverse}
@@ -231,16 +231,13 @@ module _ {E : Type 0} (r : RingOps E) (inv : E → Option E) (field : IsField r 
   abbrev basis : List (List E)
   basis = map low (leads eliminated.lead n)
 
-  low_shape : (j : ℕ) → is_row r n (low j) ≡ true
-  low_shape j = and_from _ _ (eq-eqb _ n (length-first_values n (slots j))) (elems-first_values r n (slots j) (λ k _. si j k))
-
-  low_same : (j : ℕ) → j < n → (k : ℕ) → coeff r (low j) k ≡ slots j k
-  low_same j l k = coeff-first_values r n (slots j) (λ i b. ap (λ x. x.0) (eliminated.reduced.above j i (omega (arith, l, b)))) k
+  is_reduced : AreReducedSlots r (n + w) eliminated.lead slots
+  is_reduced = from_reduced r h (n + w) eliminated.lead slots si eliminated.reduced
 
   -- There is an echelon basis of the relations.
   pub relations_exist : (basis : List (List E)) × IsEchelonBasis r n (IsRelation r rows) basis
   relations_exist = (
     basis,
-    basis_of r inv field n (n + w) eliminated.lead slots si (from_reduced r h (n + w) eliminated.lead slots si eliminated.reduced)
-        low (λ j m l. low_shape j) (λ j m l. low_same j l) (IsRelation r rows) (kernel_spans r inv field w rows ri eliminated.lead slots si eliminates),
+    basis_of r inv field n (n + w) eliminated.lead slots si is_reduced
+        low (λ j m l. low_shape r n (n + w) eliminated.lead slots si is_reduced j) (λ j m l. low_same r n (n + w) eliminated.lead slots si is_reduced j l) (IsRelation r rows) (kernel_spans r inv field w rows ri eliminated.lead slots si eliminates),
   )

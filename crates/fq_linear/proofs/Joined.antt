@@ -1,113 +1,85 @@
 -- A row joins the rows of a table.
-use Rattle.std.proofs.Common.{◌≡◌, ◌≢◌, ℕ, ◌+◌, ◌*◌, ◌<◌, ◌≤◌, inl, Bool, true, false, Option, Some, None, is_some, List, length, set, refl, sym, ◌∙◌, ap, ap₂, subst, arith, nat_lt, ltb-true, ltb-false}
+use Rattle.std.proofs.Common.{◌≡◌, ℕ, ◌+◌, ◌*◌, ◌<◌, ◌≤◌, inl, inr, Bool, true, false, Option, Some, None, is_some, List, length, set, refl, sym, ◌∙◌, ap, subst, arith, nat_lt, ltb-true, ltb-false}
 use Rattle.ring_core.specs.Ring.{RingOps, IsElem, IsRing}
-use Rattle.ring_core.specs.Coeffs.{coeff, are_elems}
-use Rattle.ring_core.proofs.Carrier.{elements, same_element, neg_mul, neg_zero, zero_mul, add_zero, add_times_zero}
-use Rattle.ring_core.proofs.Coefficients.{elem_read, coeff_past}
+use Rattle.ring_core.specs.Coeffs.{coeff}
+use Rattle.ring_core.proofs.Carrier.{elements, add_zero}
+use Rattle.ring_core.proofs.Coefficients.{coeff_past}
 use Rattle.linear_algebra.specs.Combines.{Combines}
-use Rattle.linear_algebra.specs.steps.Slots.{minus, AreReducedSlots}
-use Rattle.linear_algebra.proofs.Sums.{by_bool}
+use Rattle.linear_algebra.specs.steps.Slots.{minus, AreLedSlots}
+use Rattle.linear_algebra.proofs.Sums.{by_bool, same_or_other}
 use Rattle.linear_algebra.proofs.Spans.{minus_plus, minus_minus}
-use Rattle.linear_algebra.proofs.Insert.{Joins, IsJoined, inserted_reduced, inserted_within, old_spanned, new_spanned}
-use Rattle.linear_algebra.proofs.Lift.{AllIn, AreIn, row_of, rows_of, to_spans, from_spans, to_reduced, from_reduced, combines_into, combines_row, combines_add, combines_minus, combines_scale, combines_as}
+use Rattle.linear_algebra.proofs.Lift.{AllIn, AreIn, combines_into, combines_row, combines_add, combines_minus, combines_scale, combines_as, combines_zero}
 use Rattle.ring_core.specs.Written.{IsWritten}
-use Rattle.fq_linear.specs.steps.Places.{cleared}
-use Rattle.fq_linear.specs.steps.Elimination.{row_number, is_lead, numbered_cells, slot, IsReducedTable, IsBelow, CanJoin, IsInserted}
-use Rattle.fq_linear.proofs.Places.{elem_as}
+use Rattle.fq_linear.specs.steps.Elimination.{row_number, is_lead, numbered_cells, slot, IsLedTable, IsBelow, CanJoin, IsInserted}
 use Rattle.fq_linear.proofs.Tables.{row_place, row_end}
-use Rattle.fq_linear.proofs.Slots.{slot_in, numbered_past, number_new, number_old}
+use Rattle.fq_linear.proofs.Slots.{numbered_past, number_new, number_old}
 
 -- The slots after the row `y` with lead `l` has joined.
 pub record JoinedTo {E : Type 0} (r : RingOps E) (lead : ℕ → Bool) (l : ℕ) (y : ℕ → E) (before : ℕ → ℕ → E) (mark : ℕ → Bool) (after : ℕ → ℕ → E) : Type 0 where
   pub marked : mark l ≡ true
   pub kept : (j : ℕ) → (j ≡ l → ⊥) → mark j ≡ lead j
   pub new : (k : ℕ) → after l k ≡ y k
-  pub old : (j k : ℕ) → (j ≡ l → ⊥) → after j k ≡ cleared r l y (before j) k
+  pub old : (j k : ℕ) → (j ≡ l → ⊥) → after j k ≡ before j k
 
 module _ {E : Type 0} (r : RingOps E) (h : IsRing r) (w : ℕ) (index : List (Option ℕ)) (cells row : List E) (l : ℕ) (mark : ℕ → Bool) (after : ℕ → ℕ → E)
-    (ri : are_elems r row ≡ true) (wide : length row ≡ w) (t : IsReducedTable r w index cells) (g : CanJoin r index row l)
+    (wide : length row ≡ w) (t : IsLedTable r w index cells) (g : CanJoin r index row l)
     (n : JoinedTo r (is_lead index) l (coeff r row) (slot r w index cells) mark after) (ai : AllIn r after) where
-  si : AllIn r (slot r w index cells)
-  si = slot_in r h w index cells t.elems
+  narrow : l < w
+  narrow = let b = g.within in omega (arith, b, wide)
 
-  yi : AreIn r (coeff r row)
-  yi = elem_read r row h.closed.zero_in ri
+  pub joined_led : AreLedSlots r w mark after
+  joined_led = record {
+    within = λ j m. elim (same_or_other j l) [
+      | inl e ↦ subst (λ (i : ℕ). i < w) (sym e) narrow
+      | inr d ↦ t.led.within j (sym (n.kept j d) ∙ m)
+    ];
+    absent = λ j k m. elim (same_or_other j l) [
+      | inl e ↦ absurd (contra (sym n.marked ∙ ap mark (sym e) ∙ m))
+      | inr d ↦ n.old j k d ∙ t.led.absent j k (sym (n.kept j d) ∙ m)
+    ];
+    one = λ j m. elim (same_or_other j l) [
+      | inl e ↦ ap (λ i. after i i) e ∙ n.new l ∙ g.one
+      | inr d ↦ n.old j j d ∙ t.led.one j (sym (n.kept j d) ∙ m)
+    ];
+    above = λ j k b. elim (same_or_other j l) [
+      | inl e ↦ ap (λ i. after i k) e ∙ n.new k ∙ g.above k (subst (λ (i : ℕ). i < k) e b)
+      | inr d ↦ n.old j k d ∙ t.led.above j k b
+    ];
+  }
+    where
+      contra : true ≡ false → ⊥
+      contra e = cc
 
-  joins : Joins (elements h) w (is_lead index) l (row_of r (coeff r row) yi)
-  joins = record {
-    within = let b = g.within in omega (arith, b, wide);
-    one = same_element r _ _ g.one;
-    above = λ k b. same_element r _ _ (g.above k b);
-    clear = λ k b. same_element r _ _ (g.clear k b);
+  pub joined_inserted : IsInserted r w (slot r w index cells) after (coeff r row)
+  joined_inserted = record {
+    keeps = λ j b. elim (same_or_other j l) [
+      | inl e ↦ combines_zero r h w after (slot r w index cells j) ai (λ k. t.led.absent j k (ap (is_lead index) e ∙ g.free))
+      | inr d ↦ combines_as r h w after (after j) (slot r w index cells j) (λ k. sym (n.old j k d)) (combines_row r h w after ai j b)
+    ];
+    holds = combines_as r h w after (after l) (coeff r row) (λ k. sym (n.new k)) (combines_row r h w after ai l narrow);
+    adds = λ m rows rowsi s u j b. elim (same_or_other j l) [
+      | inl e ↦ combines_as r h m rows (coeff r row) (after j) (λ k. ap (λ i. after i k) e ∙ n.new k) s
+      | inr d ↦ combines_as r h m rows (slot r w index cells j) (after j) (λ k. n.old j k d) (u j b)
+    ];
   }
 
-  joined : IsJoined (elements h) (is_lead index) l (row_of r (coeff r row) yi) (rows_of r (slot r w index cells) si) mark (rows_of r after ai)
-  joined = record {
-    marked = n.marked;
-    kept = n.kept;
-    new = λ k. same_element r _ _ (n.new k);
-    old = λ j k d. same_element r _ _ (n.old j k d
-        ∙ ap (r.add (slot r w index cells j k)) (ap (λ a. a.0) (neg_mul (elements h) (slot r w index cells j l, si j l) (coeff r row k, yi k))));
-  }
-
-  pub joined_reduced : AreReducedSlots r w mark after
-  joined_reduced =
-      from_reduced r h w mark after ai
-      (inserted_reduced (elements h) w (is_lead index) l _ _ mark _ (to_reduced r h w (is_lead index) (slot r w index cells) si t.reduced) joins joined)
-
-  -- `l` was no lead, since the row has one there
-  pub was_free : r.one ≢ r.zero → is_lead index l ≡ false
-  was_free ne = by_bool (is_lead index l) (λ e. absurd (ne (sym g.one ∙ g.clear l e))) (λ e. e)
-
-  pub joined_inserted : r.one ≢ r.zero → IsInserted r w (slot r w index cells) after (coeff r row)
-  joined_inserted ne =
-      let before = to_reduced r h w (is_lead index) (slot r w index cells) si t.reduced in
-      record {
-        keeps = λ j b. from_spans r h w after ai _ (si j)
-            (old_spanned (elements h) w (is_lead index) l _ _ mark _ before joins joined (was_free ne) j b);
-        holds = from_spans r h w after ai _ yi (new_spanned (elements h) w (is_lead index) l _ _ mark _ before joins joined);
-        adds = λ m rows rowsi s u j b. from_spans r h m rows rowsi _ (ai j)
-            (inserted_within (elements h) w (is_lead index) l _ _ mark _ before joins joined m (rows_of r rows rowsi)
-            (λ i c. to_spans r h m rows rowsi _ (si i) (u i c)) (to_spans r h m rows rowsi _ yi s) j b);
-      }
-
--- The table once its rows are cleared at `l` and the row is written as number `count`.
-module _ {E : Type 0} (r : RingOps E) (h : IsRing r) (w count l : ℕ) (index : List (Option ℕ)) (cells between after row : List E)
-    (ci : are_elems r cells ≡ true) (ri : are_elems r row ≡ true) (wide : length row ≡ w) (inside : l < length index) (narrow : l < w) (below : IsBelow count index)
-    (clear : (i k : ℕ) → i < count → k < w → coeff r between (i * w + k) ≡ cleared r l (coeff r row) (λ m. coeff r cells (i * w + m)) k)
-    (write : IsWritten r.zero (count * w) w (coeff r row) between after) where
+-- The table once the row is written as number `count`.
+module _ {E : Type 0} (r : RingOps E) (w count l : ℕ) (index : List (Option ℕ)) (cells after row : List E)
+    (wide : length row ≡ w) (inside : l < length index) (below : IsBelow count index)
+    (write : IsWritten r.zero (count * w) w (coeff r row) cells after) where
   new_slot : (o : Option ℕ) → o ≡ Some count → (k : ℕ) → coeff r (numbered_cells w w after o) k ≡ coeff r row k
   new_slot o e k = subst (λ o. coeff r (numbered_cells w w after o) k ≡ coeff r row k) (sym e) (by_bool (nat_lt k w)
       (λ t. let b : k < w = ltb-true k w t in row_place w after count k r.zero b ∙ write.inside k b)
       (λ t. let b : w ≤ k = ltb-false k w t in numbered_past r w after (Some count) k b ∙ sym (coeff_past r row k (omega (arith, wide, b)))))
 
-  zero_in : IsElem r r.zero
-  zero_in = h.closed.zero_in
-
-  row_in : AreIn r (coeff r row)
-  row_in = elem_read r row zero_in ri
-
-  old_slot : (o : Option ℕ) → ((i : ℕ) → o ≡ Some i → i < count) → (k : ℕ)
-      → coeff r (numbered_cells w w after o) k ≡ cleared r l (coeff r row) (coeff r (numbered_cells w w cells o)) k
-  old_slot None small k =
-      ap (λ a. a.0) (sym (add_zero (elements h) (r.zero, zero_in)))
-      ∙ ap (r.add r.zero) (sym (ap (λ a. r.mul a (coeff r row k)) (ap (λ a. a.0) (neg_zero (elements h))) ∙ ap (λ a. a.0) (zero_mul (elements h) (coeff r row k, row_in k))))
+  old_slot : (o : Option ℕ) → ((i : ℕ) → o ≡ Some i → i < count) → (k : ℕ) → coeff r (numbered_cells w w after o) k ≡ coeff r (numbered_cells w w cells o) k
+  old_slot None small k = refl
   old_slot (Some i) small k = by_bool (nat_lt k w)
       (λ t.
       let b : k < w = ltb-true k w t in
-      let c = small i refl in
-      let end = row_end w count i c in
-      row_place w after i k r.zero b
-      ∙ write.outside (i * w + k) (inl (omega (arith, end, b)))
-      ∙ clear i k c b
-      ∙ ap₂ (λ x y. r.add x (r.mul (r.neg y) (coeff r row k))) (sym (row_place w cells i k r.zero b)) (sym (row_place w cells i l r.zero narrow)))
-      (λ t.
-      let b : w ≤ k = ltb-false k w t in
-      numbered_past r w after (Some i) k b
-      ∙ sym (add_times_zero r h _ _ (coeff r row k) (elem_as r _ _ (numbered_past r w cells (Some i) k b) zero_in)
-      (h.closed.neg_in _ (elem_as r _ _ (row_place w cells i l r.zero narrow) (elem_read r cells zero_in ci (i * w + l))))
-      (coeff_past r row k (omega (arith, wide, b)))
-      ∙ numbered_past r w cells (Some i) k b))
+      let end = row_end w count i (small i refl) in
+      row_place w after i k r.zero b ∙ write.outside (i * w + k) (inl (omega (arith, end, b))) ∙ sym (row_place w cells i k r.zero b))
+      (λ t. let b : w ≤ k = ltb-false k w t in numbered_past r w after (Some i) k b ∙ sym (numbered_past r w cells (Some i) k b))
 
   pub joined_to : JoinedTo r (is_lead index) l (coeff r row) (slot r w index cells) (is_lead (set index l (Some count))) (slot r w (set index l (Some count)) after)
   joined_to = record {

@@ -1,6 +1,7 @@
 pub mod Places
 pub mod Tables
 pub mod Slots
+pub mod Extents
 pub mod Joined
 pub mod Steps
 pub mod Gathered
@@ -10,3 +11,4 @@ pub mod Relations
 pub mod Solutions
 pub mod Results
 pub mod Exists
+pub mod Finished

@@ -15,9 +15,11 @@ use Rattle.linear_algebra.proofs.Spans.{Spans, span_as, span_rows, span_into}
 use Rattle.linear_algebra.proofs.Augment.{augmented as augmented_on, Eliminates, no_relation, dependent_is_lead, lead_depends, solution, nothing_left}
 use Rattle.linear_algebra.proofs.Lift.{AllIn, AreIn, row_of, rows_of, to_spans, to_reduced, combines_into, combines_as, combines_rows, combine_value}
 use Rattle.fq_linear.specs.steps.Places.{unit_row}
-use Rattle.fq_linear.specs.steps.Elimination.{row_number, is_lead, numbered_cells, slot, augmented, IsEliminated, IsReducedTarget}
+use Rattle.fq_linear.specs.steps.Elimination.{row_number, is_lead, numbered_cells, slot, augmented, IsEliminated, IsReducedTarget, AreFinished}
 use Rattle.fq_linear.proofs.Slots.{slot_in, augmented_in}
-use Rattle.fq_linear.proofs.Gathered.{low_cells, low_shape, low_same, cut_length}
+use Rattle.fq_linear.proofs.Steps.{taken_none}
+use Rattle.fq_linear.proofs.Gathered.{low_shape, low_same, cut_length}
+use Rattle.fq_linear.proofs.Finished.{finished_exist, finished_is}
 use Rattle.fq_linear.proofs.Places.{elems_range, range_place}
 use Rattle.fq_linear.proofs.Basis.{basis_of}
 use Rattle.fq_linear.proofs.Relations.{relation_on, row_in, row_past, kernel_spans}
@@ -75,21 +77,40 @@ module _ {E : Type 0} (r : RingOps E) (inv : E → Option E) (field : IsField r 
 
   pub echelon_is : (w : ℕ) (rows : List (List E)) (index : List (Option ℕ)) (cells : List E) → are_rows r w rows ≡ true
       → IsEliminated r (0 + w) (length rows) (augmented r 0 (entry r rows)) index cells
-      → (basis : List (List E)) → basis ≡ map (low_cells w w index cells) (leads (is_lead index) w) → IsEchelonBasis r w (IsCombination r rows) basis
+      → (basis : List (List E))
+      → ((finished : ℕ → ℕ → E) → AreFinished r w (is_lead index) (slot r w index cells) finished → basis ≡ map (λ j. first_values w (finished j)) (leads (is_lead index) w))
+      → IsEchelonBasis r w (IsCombination r rows) basis
   echelon_is w rows index cells ri t basis b =
       let e = subst (λ m. IsEliminated r m (length rows) (augmented r 0 (entry r rows)) index cells) (zero-add w) t in
-      subst (IsEchelonBasis r w (IsCombination r rows)) (sym b)
-      (basis_of r inv field w w (is_lead index) (slot r w index cells) (slot_in r h w index cells e.table.elems) e.table.reduced
-      (low_cells w w index cells) (low_shape r h w w index cells e.table (omega arith)) (low_same r h w w index cells e.table (omega arith))
-      (IsCombination r rows) (echelon_spans w rows index cells ri t))
+      let si = slot_in r h w index cells e.table.elems in
+      let fin = finished_exist r inv field w (is_lead index) (slot r w index cells) si e.table.led in
+      subst (IsEchelonBasis r w (IsCombination r rows)) (sym (b fin.0 fin.1))
+      (basis_of r inv field w w (is_lead index) fin.0 fin.1.elems fin.1.reduced (λ j. first_values w (fin.0 j))
+      (λ j m l. low_shape r w w (is_lead index) fin.0 fin.1.elems fin.1.reduced j) (λ j m l. low_same r w w (is_lead index) fin.0 fin.1.elems fin.1.reduced j l)
+      (IsCombination r rows) (λ x xr.
+      let xi = elem_read r x h.closed.zero_in (row_elems r w x xr) in
+      let spans = echelon_spans w rows index cells ri t x xr in (
+        λ s. combines_into r h w w (slot r w index cells) fin.0 (coeff r x) si fin.1.elems xi fin.1.into (spans.0 s),
+        λ s. spans.1 (combines_into r h w w fin.0 (slot r w index cells) (coeff r x) fin.1.elems si xi fin.1.back s),
+      )))
 
   module _ (w : ℕ) (rows : List (List E)) (index : List (Option ℕ)) (cells : List E) (ri : are_rows r w rows ≡ true)
       (t : IsEliminated r (length rows + w) (length rows) (augmented r (length rows) (entry r rows)) index cells) where
     abbrev n : ℕ
     n = length rows
 
+    abbrev table : ℕ → ℕ → E
+    table = slot r (n + w) index cells
+
+    table_in : AllIn r table
+    table_in = slot_in r h (n + w) index cells t.table.elems
+
+    -- the reduced rows which those of the table give
+    pub fin : (finished : ℕ → ℕ → E) × AreFinished r (n + w) (is_lead index) table finished
+    fin = finished_exist r inv field (n + w) (is_lead index) table table_in t.table.led
+
     abbrev slots : ℕ → ℕ → E
-    slots = slot r (n + w) index cells
+    slots = fin.0
 
     vi : AllIn r (entry r rows)
     vi = rows_in r h.closed.zero_in w rows ri
@@ -98,7 +119,7 @@ module _ {E : Type 0} (r : RingOps E) (inv : E → Option E) (field : IsField r 
     v = rows_of r (entry r rows) vi
 
     si : AllIn r slots
-    si = slot_in r h (n + w) index cells t.table.elems
+    si = fin.1.elems
 
     ai : AllIn r (augmented r n (entry r rows))
     ai = augmented_in r h.closed.zero_in h.closed.one_in n (entry r rows) vi
@@ -108,22 +129,26 @@ module _ {E : Type 0} (r : RingOps E) (inv : E → Option E) (field : IsField r 
 
     eliminates : Eliminates R n w v (is_lead index) (rows_of r slots si)
     eliminates = record {
-      reduced = to_reduced r h (n + w) (is_lead index) slots si t.table.reduced;
-      within = λ j l. span_rows R n _ _ _ (λ i _ k. same_augmented i k) (to_spans r h n (augmented r n (entry r rows)) ai (slots j) (si j) (t.within j l));
+      reduced = to_reduced r h (n + w) (is_lead index) slots si fin.1.reduced;
+      within = λ j l. span_rows R n _ _ _ (λ i _ k. same_augmented i k) (to_spans r h n (augmented r n (entry r rows)) ai (slots j) (si j)
+          (combines_into r h (n + w) n table (augmented r n (entry r rows)) (slots j) table_in ai (si j) t.within (fin.1.back j l)));
       spans = λ x s. span_into R n (n + w) (augmented_on R n v) (rows_of r slots si) x
           (λ i l. span_as R (n + w) _ (row_of r (augmented r n (entry r rows) i) (ai i)) _ (λ k. sym (same_augmented i k))
-          (to_spans r h (n + w) slots si (augmented r n (entry r rows) i) (ai i) (t.holds i l))) s;
+          (to_spans r h (n + w) slots si (augmented r n (entry r rows) i) (ai i)
+          (combines_into r h (n + w) (n + w) table slots (augmented r n (entry r rows) i) table_in si (ai i) fin.1.into (t.holds i l)))) s;
     }
 
     ne : R.one ≢ R.zero
     ne e = field.one_ne_zero (ap (λ x. x.0) e)
 
-    pub kernel_is : (basis : List (List E)) → basis ≡ map (low_cells (n + w) n index cells) (leads (is_lead index) n) → IsEchelonBasis r n (IsRelation r rows) basis
+    pub kernel_is : (basis : List (List E))
+        → ((finished : ℕ → ℕ → E) → AreFinished r (n + w) (is_lead index) table finished → basis ≡ map (λ j. first_values n (finished j)) (leads (is_lead index) n))
+        → IsEchelonBasis r n (IsRelation r rows) basis
     unfolding vi
     kernel_is basis b =
-        subst (IsEchelonBasis r n (IsRelation r rows)) (sym b)
-        (basis_of r inv field n (n + w) (is_lead index) slots si t.table.reduced
-        (low_cells (n + w) n index cells) (low_shape r h (n + w) n index cells t.table (omega arith)) (low_same r h (n + w) n index cells t.table (omega arith))
+        subst (IsEchelonBasis r n (IsRelation r rows)) (sym (b slots fin.1))
+        (basis_of r inv field n (n + w) (is_lead index) slots si fin.1.reduced (λ j. first_values n (slots j))
+        (λ j m l. low_shape r n (n + w) (is_lead index) slots si fin.1.reduced j) (λ j m l. low_same r n (n + w) (is_lead index) slots si fin.1.reduced j l)
         (IsRelation r rows) (kernel_spans r inv field w rows ri (is_lead index) slots si eliminates))
 
     pub dependent_lead : (k : ℕ) → k < n → IsDependent r rows k → is_lead index k ≡ true
@@ -171,16 +196,23 @@ module _ {E : Type 0} (r : RingOps E) (inv : E → Option E) (field : IsField r 
         never : {b : Bool} → b ≡ true → b ≡ false → ⊥
         never e f = cc
 
+    -- the row with the first lead is finished as it stands
+    first_finished : (k : ℕ) → is_lead index k ≡ true → ((j : ℕ) → j < k → is_lead index j ≡ false) → (m : ℕ) → table k m ≡ slots k m
+    first_finished k l none =
+        finished_is r h (n + w) (is_lead index) table slots table_in t.table.led fin.1 k l (table k) (table_in k) (taken_none r h k table (table k) table_in (table_in k))
+        (λ i b m. absurd (not_both m (none i b)))
+
     -- the same of the cells of the row with the first lead
     pub first_dependence_from : (k i : ℕ) → k < n → row_number index k ≡ Some i → ((j : ℕ) → j < k → is_lead index j ≡ false)
         → let u = slice_range cells (i * (n + w)) (i * (n + w) + k) in IsFirstDependence r rows k (first_values (length u) (λ m. r.neg (coeff r u m)))
     first_dependence_from k i l e none =
         let u = slice_range cells (i * (n + w)) (i * (n + w) + k) in
         first_dependence_is k u l (ap is_some e) none
-        (cut_length r h (n + w) k index cells t.table (omega arith) i (t.table.stored.is k i e))
+        (cut_length (n + w) k cells (omega arith) i (t.table.stored.is k i e))
         (elems_range r h cells (i * (n + w)) (i * (n + w) + k) t.table.elems)
         (λ m b. range_place cells (i * (n + w)) (i * (n + w) + k) m r.zero (omega arith)
-        ∙ sym (ap (λ o. coeff r (numbered_cells (n + w) (n + w) cells o) m) e ∙ range_place cells (i * (n + w)) (i * (n + w) + (n + w)) m r.zero (omega arith)))
+        ∙ sym (ap (λ o. coeff r (numbered_cells (n + w) (n + w) cells o) m) e ∙ range_place cells (i * (n + w)) (i * (n + w) + (n + w)) m r.zero (omega arith))
+        ∙ first_finished k (ap is_some e) none m)
 
     module _ (target row : List E) (tr : is_row r w target ≡ true) (d : IsReducedTarget r n (n + w) index cells target row) where
       ti : AreIn r (coeff r target)
@@ -205,7 +237,7 @@ module _ {E : Type 0} (r : RingOps E) (inv : E → Option E) (field : IsField r 
       taken_on =
           span_as R (n + w) _ (row_of r (minus r (beside n (λ _. r.zero) (coeff r target)) (coeff r row)) target_in) _
           (λ k. same_element r _ _ (ap (λ a. r.add a (r.neg (coeff r row k))) (cond_value r (nat_lt k n) R.zero (t_on (k - n)))))
-          (to_spans r h (n + w) slots si _ target_in d.taken)
+          (to_spans r h (n + w) slots si _ target_in (combines_into r h (n + w) (n + w) table slots _ table_in si target_in fin.1.into d.taken))
 
       clear_on : (k : ℕ) → is_lead index k ≡ true → y_on k ≡ R.zero
       clear_on k m = same_element r _ _ (d.clear k m)

@@ -1,8 +1,8 @@
 -- The rows of a table by their leads, and writes to a table.
 use Rattle.linear_algebra.specs.steps.Slots.{beside}
-use Rattle.std.proofs.Common.{◌≡◌, ℕ, ◌+◌, ◌-◌, ◌*◌, ◌<◌, ◌≤◌, inl, inr, true, cond, Option, Some, None, nat_eq, List, length, set, refl, sym, ◌∙◌, ap, ap₂, subst, arith, MatchOption, nat_lt, ltb-true, ltb-false, zero-add, get_or-set_same, get_or-set_other}
+use Rattle.std.proofs.Common.{◌≡◌, ℕ, ◌+◌, ◌-◌, ◌*◌, ◌<◌, ◌≤◌, inl, inr, true, cond, Option, Some, None, nat_eq, List, length, set, refl, sym, ◌∙◌, ap, subst, arith, MatchOption, nat_lt, ltb-true, ltb-false, zero-add, get_or-set_same, get_or-set_other}
 use Rattle.std.proofs.lemmas.Bool.{cond_both}
-use Rattle.ring_core.proofs.Carrier.{add_times_zero}
+use Rattle.ring_core.proofs.Carrier.{elements, add_times_zero, neg_zero, zero_mul, add_zero}
 use Rattle.ring_core.specs.Ring.{RingOps, IsElem, IsRing}
 use Rattle.ring_core.specs.Coeffs.{coeff, are_elems}
 use Rattle.ring_core.proofs.Coefficients.{elem_read, coeff_past}
@@ -13,7 +13,6 @@ use Rattle.fq_linear.specs.steps.Places.{cleared, unit_row}
 use Rattle.fq_linear.specs.Table.{row_cells}
 use Rattle.fq_linear.specs.steps.Elimination.{row_number, numbered_cells, slot, IsBelow, HasRowsWithin, augmented}
 use Rattle.fq_linear.proofs.Places.{elems_range, range_past}
-use Rattle.fq_linear.proofs.Tables.{row_end}
 
 module _ {E : Type 0} (r : RingOps E) where
   pub numbered_past : (w : ℕ) (cells : List E) (o : Option ℕ) (k : ℕ) → w ≤ k → coeff r (numbered_cells w w cells o) k ≡ r.zero
@@ -28,27 +27,20 @@ module _ {E : Type 0} (r : RingOps E) (h : IsRing r) where
   pub slot_in : (w : ℕ) (index : List (Option ℕ)) (cells : List E) → are_elems r cells ≡ true → AllIn r (slot r w index cells)
   slot_in w index cells e j k = numbered_in w cells e (row_number index j) k
 
-  -- a row cleared by one of the table, told at every place
-  pub cleared_some : (w j n i : ℕ) (o : Option ℕ) (cells row new : List E) → o ≡ Some i → n ≡ w → length row ≡ w → are_elems r cells ≡ true → are_elems r row ≡ true
-      → IsWritten r.zero 0 n (cleared r j (coeff r (row_cells w cells i)) (λ k. coeff r row (0 + k))) row new
-      → (k : ℕ) → coeff r new k ≡ cleared r j (coeff r (numbered_cells w w cells o)) (coeff r row) k
-  cleared_some w j n i o cells row new eo en el ce re s k =
-      subst (λ o. coeff r new k ≡ cleared r j (coeff r (numbered_cells w w cells o)) (coeff r row) k) (sym eo)
-      (by_bool (nat_lt k n)
-      (λ t. ap (coeff r new) (sym (zero-add k)) ∙ s.inside k (ltb-true k n t)
-      ∙ ap₂ (λ a b. r.add (coeff r row a) (r.mul (r.neg (coeff r row b)) (coeff r (row_cells w cells i) k))) (zero-add k) (zero-add j))
-      (λ t.
-      let far : n ≤ k = ltb-false k n t in
-      s.outside k (inr (omega arith))
-      ∙ sym (add_times_zero r h (coeff r row k) _ _ (elem_read r row h.closed.zero_in re k)
-      (h.closed.neg_in _ (elem_read r row h.closed.zero_in re j)) (numbered_past r w cells (Some i) k (omega arith)))))
-
+  -- a row that no row of the table clears, told like one that is cleared
   pub cleared_none : (w j : ℕ) (o : Option ℕ) (cells row : List E) → o ≡ None → are_elems r row ≡ true
       → (k : ℕ) → coeff r row k ≡ cleared r j (coeff r (numbered_cells w w cells o)) (coeff r row) k
   cleared_none w j o cells row eo re k =
       subst (λ o. coeff r row k ≡ cleared r j (coeff r (numbered_cells w w cells o)) (coeff r row) k) (sym eo)
       (sym (add_times_zero r h (coeff r row k) _ r.zero (elem_read r row h.closed.zero_in re k)
       (h.closed.neg_in _ (elem_read r row h.closed.zero_in re j)) refl))
+
+  pub cleared_nothing : (j : ℕ) (y : ℕ → E) (row : List E) → are_elems r row ≡ true → ((k : ℕ) → IsElem r (y k)) → coeff r row j ≡ r.zero
+      → (k : ℕ) → coeff r row k ≡ cleared r j y (coeff r row) k
+  cleared_nothing j y row re yi e k =
+      sym (ap (λ a. r.add (coeff r row k) (r.mul (r.neg a) (y k))) e
+      ∙ ap (r.add (coeff r row k)) (ap (λ a. r.mul a (y k)) (ap (λ a. a.0) (neg_zero (elements h))) ∙ ap (λ a. a.0) (zero_mul (elements h) (y k, yi k)))
+      ∙ ap (λ a. a.0) (add_zero (elements h) (coeff r row k, elem_read r row h.closed.zero_in re k)))
 
   -- the row with the unit matrix before it
   pub loaded : (n w i : ℕ) (part before middle after : List E) → length part ≡ w → length after ≡ n + w
@@ -123,22 +115,6 @@ pub augmented_in : {E : Type 0} (r : RingOps E) → IsElem r r.zero → IsElem r
 augmented_in r z o n rows ri i k =
     cond_both (nat_lt k n) (unit_row r i k) (rows i (k - n)) (λ a. IsElem r a)
     (λ _. cond_both (nat_eq i k) r.one r.zero (λ a. IsElem r a) (λ _. o) (λ _. z)) (λ _. ri i (k - n))
-
--- one more row of the cells is cleared
-pub cleared_rows_more : {E : Type 0} (r : RingOps E) (w n l : ℕ) (first before after : List E) (y : ℕ → E) → l < w
-    → IsWritten r.zero (n * w) w (cleared r l y (λ k. coeff r before (n * w + k))) before after
-    → ((i k : ℕ) → i < n → k < w → coeff r before (i * w + k) ≡ cleared r l y (λ m. coeff r first (i * w + m)) k)
-    → ((p : ℕ) → n * w ≤ p → coeff r before p ≡ coeff r first p)
-    → (i k : ℕ) → i < n + 1 → k < w → coeff r after (i * w + k) ≡ cleared r l y (λ m. coeff r first (i * w + m)) k
-cleared_rows_more r w n l first before after y place s done rest i k a b = elim (same_or_other i n) [
-  | inl q ↦
-      subst (λ (i : ℕ). coeff r after (i * w + k) ≡ cleared r l y (λ m. coeff r first (i * w + m)) k) (sym q)
-      (s.inside k b ∙ ap₂ (λ a c. r.add a (r.mul (r.neg c) (y k))) (rest (n * w + k) (omega arith)) (rest (n * w + l) (omega arith)))
-  | inr d ↦
-      let c : i < n = omega arith in
-      let end = row_end w n i c in
-      s.outside (i * w + k) (inl (omega (arith, end))) ∙ done i k c b
-]
 
 pub none_is_not : (i : ℕ) → None ≡ Some i → ⊥
 none_is_not i q = cc

@@ -1,10 +1,10 @@
 -- The steps of the elimination's loops.
-use Rattle.std.proofs.Common.{◌≡◌, ℕ, ◌+◌, ◌-◌, ◌<◌, inl, inr, Bool, true, false, Option, None, is_some, cond, nat_lt, List, length, sym, ◌∙◌, ap, arith}
+use Rattle.std.proofs.Common.{◌≡◌, ℕ, ◌+◌, ◌-◌, ◌<◌, ◌≤◌, inl, inr, Bool, true, false, Option, None, is_some, cond, nat_lt, List, length, sym, ◌∙◌, ap, arith}
 use Rattle.ring_core.specs.Ring.{RingOps, IsRing}
 use Rattle.ring_core.specs.Coeffs.{coeff, are_elems}
 use Rattle.ring_core.proofs.Carrier.{elements, add_times_zero}
 use Rattle.linear_algebra.specs.Combines.{Combines}
-use Rattle.linear_algebra.specs.steps.Slots.{minus, AreReducedSlots}
+use Rattle.linear_algebra.specs.steps.Slots.{minus, AreLedSlots}
 use Rattle.linear_algebra.proofs.Sums.{same_or_other}
 use Rattle.linear_algebra.proofs.Spans.{minus_cleared}
 use Rattle.linear_algebra.proofs.Lift.{AllIn, AreIn, combines_into, combines_row, combines_add, combines_scale, combines_as, combines_zero, combines_more, combines_rows}
@@ -12,7 +12,7 @@ use Rattle.linear_algebra.specs.Linear.{entry, row_at}
 use Rattle.fq_linear.specs.Table.{row_cells, table_rows}
 use Rattle.fq_linear.proofs.Tables.{row_at-table}
 use Rattle.fq_linear.specs.steps.Places.{cleared, unit_row}
-use Rattle.fq_linear.specs.steps.Elimination.{row_number, is_lead, numbered_cells, slot, IsReducedTable, IsInserted, IsEliminated, augmented}
+use Rattle.fq_linear.specs.steps.Elimination.{row_number, is_lead, numbered_cells, slot, IsLedTable, IsInserted, IsEliminated, augmented}
 use Rattle.fq_linear.proofs.Slots.{slot_in, none_is_not}
 
 module _ {E : Type 0} (r : RingOps E) (h : IsRing r) where
@@ -29,36 +29,46 @@ module _ {E : Type 0} (r : RingOps E) (h : IsRing r) where
       (λ k. h.closed.add_in _ _ (xi k) (h.closed.neg_in _ (yi k))) (λ k. h.closed.mul_in _ _ (yi j) (si j k))
       s (combines_scale r h w slots (y j) (slots j) si (yi j) (si j) (combines_row r h w slots si j l)))
 
-  pub clear_more : (w : ℕ) (lead : ℕ → Bool) (slots : ℕ → ℕ → E) (j : ℕ) (y z : ℕ → E) → AreIn r y → AreReducedSlots r w lead slots
-      → ((k : ℕ) → z k ≡ cleared r j (slots j) y k) → ((k : ℕ) → k < j → lead k ≡ true → y k ≡ r.zero)
-      → (k : ℕ) → k < j + 1 → lead k ≡ true → z k ≡ r.zero
-  clear_more w lead slots j y z yi g e old k l m = elim (same_or_other j k) [
-    | inl q ↦
-        e k ∙ ap (λ i. r.add (y i) (r.mul (r.neg (y j)) (slots j i))) (sym q)
-        ∙ ap (λ a. r.add (y j) (r.mul (r.neg (y j)) a)) (g.one j (ap lead q ∙ m))
+  -- clearing by the row with lead `j` leaves the places past it, and gives zero there
+  module _ (w : ℕ) (lead : ℕ → Bool) (slots : ℕ → ℕ → E) (g : AreLedSlots r w lead slots) (j : ℕ) (y z : ℕ → E) (yi : AreIn r y)
+      (e : (k : ℕ) → z k ≡ cleared r j (slots j) y k) where
+    pub cleared_past : (k : ℕ) → j < k → z k ≡ y k
+    cleared_past k l = e k ∙ add_times_zero r h (y k) _ (slots j k) (yi k) (h.closed.neg_in _ (yi j)) (g.above j k l)
+
+    pub cleared_at : lead j ≡ true → z j ≡ r.zero
+    cleared_at m =
+        e j ∙ ap (λ a. r.add (y j) (r.mul (r.neg (y j)) a)) (g.one j m)
         ∙ ap (r.add (y j)) (h.mul_one _ (h.closed.neg_in _ (yi j))) ∙ h.add_neg _ (yi j)
-    | inr d ↦
-        e k ∙ add_times_zero r h (y k) _ (slots j k) (yi k) (h.closed.neg_in _ (yi j)) (g.apart j k m d) ∙ old k (omega arith) m
-  ]
+
+    pub clear_more : (top : ℕ) → ((k : ℕ) → j < k → k < top → lead k ≡ true → y k ≡ r.zero) → (k : ℕ) → j ≤ k → k < top → lead k ≡ true → z k ≡ r.zero
+    clear_more top old k a b m = elim (same_or_other j k) [
+      | inl q ↦ ap z (sym q) ∙ cleared_at (ap lead q ∙ m)
+      | inr d ↦ cleared_past k (omega (arith, a, d)) ∙ old k (omega (arith, a, d)) b m
+    ]
+
+    pub zero_more : z j ≡ r.zero → ((k : ℕ) → j < k → y k ≡ r.zero) → (k : ℕ) → j ≤ k → z k ≡ r.zero
+    zero_more here old k a = elim (same_or_other j k) [
+      | inl q ↦ ap z (sym q) ∙ here
+      | inr d ↦ cleared_past k (omega (arith, a, d)) ∙ old k (omega (arith, a, d))
+    ]
 
   -- an empty table
-  empty_slot : (w : ℕ) (index : List (Option ℕ)) (cells : List E) → ((j : ℕ) → row_number index j ≡ None) → (j k : ℕ) → slot r w index cells j k ≡ r.zero
+  pub empty_slot : (w : ℕ) (index : List (Option ℕ)) (cells : List E) → ((j : ℕ) → row_number index j ≡ None) → (j k : ℕ) → slot r w index cells j k ≡ r.zero
   empty_slot w index cells e j k = ap (λ o. coeff r (numbered_cells w w cells o) k) (e j)
 
   empty_lead : (index : List (Option ℕ)) (j : ℕ) → row_number index j ≡ None → is_lead index j ≡ true → ⊥
   empty_lead index j e l = let f : is_some (row_number index j) ≡ false = ap is_some e in cc
 
-  pub empty_table : (w : ℕ) (index : List (Option ℕ)) (cells : List E) → length index ≡ w → are_elems r cells ≡ true → ((j : ℕ) → row_number index j ≡ None) → IsReducedTable r w index cells
+  pub empty_table : (w : ℕ) (index : List (Option ℕ)) (cells : List E) → length index ≡ w → are_elems r cells ≡ true → ((j : ℕ) → row_number index j ≡ None) → IsLedTable r w index cells
   empty_table w index cells len ci e = record {
     index_len = len;
     elems = ci;
     stored = record { is = λ j i q. let f = e j in absurd (none_is_not i (sym f ∙ q)) };
-    reduced = record {
+    led = record {
       within = λ j l. absurd (empty_lead index j (e j) l);
       absent = λ j k l. empty_slot w index cells e j k;
       one = λ j l. absurd (empty_lead index j (e j) l);
       above = λ j k l. empty_slot w index cells e j k;
-      apart = λ j k l d. empty_slot w index cells e j k;
     };
   }
 
@@ -72,7 +82,7 @@ module _ {E : Type 0} (r : RingOps E) (h : IsRing r) where
 
   -- one more row is inserted
   pub eliminated_more : (w n : ℕ) (rows : ℕ → ℕ → E) (index mark : List (Option ℕ)) (cells after : List E) (x : ℕ → E) → AllIn r rows
-      → IsEliminated r w n rows index cells → IsReducedTable r w mark after → ((k : ℕ) → x k ≡ rows n k)
+      → IsEliminated r w n rows index cells → IsLedTable r w mark after → ((k : ℕ) → x k ≡ rows n k)
       → IsInserted r w (slot r w index cells) (slot r w mark after) x → IsEliminated r w (n + 1) rows mark after
   eliminated_more w n rows index mark cells after x ri old t e g =
       let bi = slot_in r h w index cells old.table.elems in

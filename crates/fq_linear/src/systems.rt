@@ -3,10 +3,10 @@
 ghost use Rattle.std.specs.Prelude.{◌≡◌, ◌+◌, ◌≤◌, ◌<◌, ℕ, true, false, length, IfOk, MatchOption, IsTrue, ◌↔◌};
 ghost use Rattle.ring_core.specs.Coeffs.{coeff, are_elems};
 ghost use Rattle.linear_algebra.specs.Linear.{are_rows, is_row, IsCombination, IsRelation, IsIndependent, IsEchelonBasis, IsOnlySolution, IsFirstDependence};
-ghost use Rattle.fq_linear.specs.steps.Elimination.{is_lead, IsReducedTable, IsReducedTarget, IsFirstLead};
+ghost use Rattle.fq_linear.specs.steps.Elimination.{is_lead, IsLedTable, IsReducedTarget, IsFirstLead};
 
 use super::cells::write_at;
-use super::eliminate::{eliminate, reduce_row};
+use super::eliminate::{eliminate, reduce_below};
 use super::gather::gather;
 use super::rows::Rows;
 use ring_core::lists::neg_values;
@@ -24,7 +24,7 @@ pub fn echelon<F: Field>(alloc: Global, f: &F, rows: &Rows<E<F>>) -> Result<Rows
     ensures basis { let r = F.ops f.now in IfOk result (λ v. IsEchelonBasis r rows.now.width (IsCombination r rows.now.rows) v.rows) }
 {
     let table = eliminate(alloc, f, 0, rows)?;
-    Ok(gather(alloc, rows.width(), &table.index, &table.cells)?)
+    Ok(gather(alloc, f, rows.width(), &table.index, &table.cells)?)
 }
 
 /// The echelon basis of all relations of the rows: the lists `c` with a member for each row, with the sum of
@@ -38,7 +38,7 @@ pub fn kernel<F: Field>(alloc: Global, f: &F, rows: &Rows<E<F>>) -> Result<Rows<
 {
     let n = rows.len();
     let table = eliminate(alloc, f, n, rows)?;
-    Ok(gather(alloc, n, &table.index, &table.cells)?)
+    Ok(gather(alloc, f, n, &table.index, &table.cells)?)
 }
 
 /// Writes the target after `n` zeros and reduces it by the table. True exactly where nothing is left of it
@@ -51,7 +51,7 @@ fn reduce_target<F: Field>(
     target: &[E<F>],
     row: &mut [E<F>],
 ) -> bool
-    requires table { IsReducedTable (F.ops f.now) (length row.old) index.now cells.now }
+    requires table { IsLedTable (F.ops f.now) (length row.old) index.now cells.now }
     requires target { are_elems (F.ops f.now) target.now ≡ true }
     requires row { are_elems (F.ops f.now) row.old ≡ true }
     requires row_len { length row.old ≡ n + length target.now }
@@ -60,7 +60,7 @@ fn reduce_target<F: Field>(
     ensures left { let r = F.ops f.now in IsTrue result ↔ ((k : ℕ) → n ≤ k → coeff r row.new k ≡ r.zero) }
 {
     write_at(row, n, target);
-    reduce_row(f, index, cells, row);
+    reduce_below(f, row.len(), index, cells, row);
     is_zero_from(f, n, row)
 }
 

@@ -1,6 +1,7 @@
 pub mod Sums
 pub mod Spans
 pub mod Slots
+pub mod Led
 pub mod Insert
 pub mod Augment
 pub mod Lift

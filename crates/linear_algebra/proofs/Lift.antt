@@ -4,10 +4,11 @@ use Rattle.ring_core.specs.Ring.{RingOps, IsElem, IsRing}
 use Rattle.ring_core.proofs.Carrier.{Element, same_element, elements}
 use Rattle.ring_core.proofs.Twist.{total_is}
 use Rattle.linear_algebra.specs.Combines.{combined, Combines}
-use Rattle.linear_algebra.specs.steps.Slots.{minus, AreReducedSlots}
+use Rattle.linear_algebra.specs.steps.Slots.{minus, AreLedSlots, AreReducedSlots}
 use Rattle.linear_algebra.proofs.Sums.{combine}
 use Rattle.linear_algebra.proofs.Spans.{Spans, span_zero, span_add, span_minus, span_scale, span_row, span_into}
 use Rattle.linear_algebra.proofs.Slots.{Reduced}
+use Rattle.linear_algebra.proofs.Led.{Led}
 
 -- A row, and rows, of elements.
 abbrev pub AreIn : {E : Type 0} → RingOps E → (ℕ → E) → Type 0
@@ -40,6 +41,15 @@ module _ {E : Type 0} (r : RingOps E) (h : IsRing r) where
     by = λ i. (s.by i).0;
     elems = λ i. (s.by i).1;
     is = λ j. ap (λ a. a.0) (s.is j) ∙ combine_value n s.by (rows_of r rows ri) j;
+  }
+
+  pub to_led : (w : ℕ) (lead : ℕ → Bool) (slots : ℕ → ℕ → E) (si : AllIn r slots)
+      → AreLedSlots r w lead slots → Led (elements h) w lead (rows_of r slots si)
+  to_led w lead slots si g = record {
+    within = g.within;
+    absent = λ j k l. same_element r _ _ (g.absent j k l);
+    one = λ j l. same_element r _ _ (g.one j l);
+    above = λ j k b. same_element r _ _ (g.above j k b);
   }
 
   pub to_reduced : (w : ℕ) (lead : ℕ → Bool) (slots : ℕ → ℕ → E) (si : AllIn r slots)

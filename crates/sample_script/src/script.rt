@@ -13,7 +13,7 @@ fn element(alloc: Global, draw: u32) -> Result<Vec<u8>, NoMemory>
     requires { draw < 256 }
     ensures { IfOk result (λ v. v.items ≡ element draw) }
 {
-    digit_sum(alloc, b"z", 2, 8, draw as u8)
+    digit_sum(alloc, b"z", 2, 8, draw as u16)
 }
 
 /// The highest coefficient of a draw.

@@ -1,5 +1,5 @@
 //! Elements of fields as the numbers with their digits.
-use super::plain::{ROOM, digits, number};
+use super::plain::{Number, ROOM, digits, number};
 use field_tower::{Code, TopElem, WIDTH};
 use std::process::Abort;
 
@@ -7,10 +7,10 @@ use std::process::Abort;
 pub const SIXTEEN: &str = "2 2; 1 1 1 | 2; 2 1 1";
 
 /// The number whose digits in base `q` are the places of `c`, of which each must be a digit.
-pub fn top_number(rt: &impl Abort, q: u32, c: TopElem) -> u32 {
+pub fn top_number(rt: &impl Abort, q: Number, c: TopElem) -> Number {
     let mut list = [0; ROOM];
     for i in 0..WIDTH {
-        list[i] = c.0[i] as u32;
+        list[i] = c.0[i] as Number;
     }
     let a = number(q, &list);
     assert_eq!(rt; top_element(q, a).0, c.0);
@@ -19,7 +19,7 @@ pub fn top_number(rt: &impl Abort, q: u32, c: TopElem) -> u32 {
 
 /// The element whose places are the digits of `a` in base `q`, where `q` is at most the number of
 /// codes.
-pub fn top_element(q: u32, a: u32) -> TopElem {
+pub fn top_element(q: Number, a: Number) -> TopElem {
     let list = digits(q, WIDTH, a);
     let mut places = [0; WIDTH];
     for i in 0..WIDTH {

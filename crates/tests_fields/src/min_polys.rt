@@ -2,7 +2,7 @@
 //! computation.
 
 use super::data::{SIXTEEN, top_element};
-use super::plain::{Modulo, Numbers, Residues, next_power, next_sample, sample_element};
+use super::plain::{Modulo, Number, Numbers, Residues, next_power, next_sample, sample_element};
 use field_tower::{Code, TopElem, Tower};
 use fq_poly::Poly;
 use ring_core::{Field, FrobField};
@@ -24,9 +24,9 @@ const TWELVE: &str = "2 1; 0 1 | 12; 1 0 0 1 0 0 0 0 0 0 0 0 1";
 fn times_linear<N: Numbers>(
     alloc: Global,
     plain: &N,
-    list: &[u32],
-    b: u32,
-) -> Result<Vec<u32>, Fail> {
+    list: &[Number],
+    b: Number,
+) -> Result<Vec<Number>, Fail> {
     let mut product = Vec::new(alloc);
     let mut below = 0;
     for c in list {
@@ -44,8 +44,8 @@ fn conjugate_product<N: Numbers>(
     plain: &N,
     q: (u32, u32),
     n: usize,
-    a: u32,
-) -> Result<Vec<u32>, Fail> {
+    a: Number,
+) -> Result<Vec<Number>, Fail> {
     let mut product = Vec::new(alloc);
     product.push(1)?;
     let mut conjugate = a;
@@ -59,9 +59,18 @@ fn conjugate_product<N: Numbers>(
     Err(Fail::new("conjugates that come round"))
 }
 
+/// The codes that are these numbers.
+fn codes_of(alloc: Global, list: &[Number]) -> Result<Vec<Code>, Fail> {
+    let mut codes = Vec::new(alloc);
+    for c in list {
+        codes.push(Code::try_from(*c)?)?;
+    }
+    Ok(codes)
+}
+
 /// The minimal polynomial of the element with this number.
-fn min_poly_of(alloc: Global, tower: &Tower, a: u32) -> Result<Poly<Code>, Fail> {
-    let c: TopElem = top_element(tower.base().q(), a);
+fn min_poly_of(alloc: Global, tower: &Tower, a: Number) -> Result<Poly<Code>, Fail> {
+    let c: TopElem = top_element(tower.base().q() as Number, a);
     if !tower.is_elem(c) {
         return Err(Fail::new("the number of an element"));
     }
@@ -75,11 +84,11 @@ fn check_element<N: Numbers>(
     alloc: Global,
     tower: &Tower,
     plain: &N,
-    a: u32,
+    a: Number,
 ) -> Result<(), Fail> {
     let q = (tower.base().p(), tower.base().s());
     let want = conjugate_product(alloc, plain, q, tower.degree(), a)?;
-    let want = codes(alloc, &want)?;
+    let want = codes_of(alloc, &want)?;
     let got = min_poly_of(alloc, tower, a)?;
     assert_eq!(rt; got.as_slice(), want.as_slice(), "{a}");
     Ok(())
@@ -115,7 +124,7 @@ fn check_sample<N: Numbers>(
 fn check_tower(rt: &impl Abort, alloc: Global, row: &str, all: bool) -> Result<(), Fail> {
     let data = top_data(alloc, row)?;
     let tower = make_top(alloc, &data)?;
-    let prime = Modulo(data.base.p);
+    let prime = Modulo(data.base.p as Number);
     let constants = Residues::new(&prime, &data.base.modulus);
     let plain = Residues::new(&constants, &data.modulus);
     if all {

@@ -2,7 +2,7 @@
 //! residues that multiply to zero.
 
 use super::data::top_number;
-use super::plain::{Modulo, Numbers, ROOM, Residues, digits, has_pair, is_pair};
+use super::plain::{Modulo, Number, Numbers, ROOM, Residues, digits, has_pair, is_pair};
 use field_tower::{BaseFault, BaseField, Code, Tower, TowerFault};
 use ring_core::lists::all_elems;
 use std::alloc::Global;
@@ -12,10 +12,10 @@ use tests_support::fields::codes;
 
 /// The monic polynomial of this degree whose lower coefficients are the digits of `a`.
 fn monic(alloc: Global, p: u32, degree: u32, a: u32) -> Result<Vec<u32>, Fail> {
-    let list = digits(p, ROOM, a);
+    let list = digits(p as Number, ROOM, a as Number);
     let mut modulus = Vec::new(alloc);
     for i in 0..degree {
-        modulus.push(list.get(i as usize).copied().unwrap_or(0))?;
+        modulus.push(list.get(i as usize).copied().unwrap_or(0) as u32)?;
     }
     modulus.push(1)?;
     Ok(modulus)
@@ -31,12 +31,12 @@ fn makes_base<N: Numbers>(
 ) -> Result<bool, Fail> {
     match BaseField::make(alloc, p, s, modulus) {
         Ok(field) => {
-            assert_eq!(rt; field.q(), plain.size());
+            assert_eq!(rt; field.q() as Number, plain.size());
             Ok(true)
         }
         Err(BaseFault::ZeroDivisors { a, b }) => {
             assert!(rt;
-                is_pair(plain, a as u32, b as u32),
+                is_pair(plain, a as Number, b as Number),
                 "{p} {modulus:?} {a} {b}"
             );
             Ok(false)
@@ -66,7 +66,11 @@ fn makes_top<N: Numbers>(
         return Err(Fail::new("a top field or a pair"));
     };
     assert!(rt;
-        is_pair(plain, top_number(rt, p, a), top_number(rt, p, b)),
+        is_pair(
+            plain,
+            top_number(rt, p as Number, a),
+            top_number(rt, p as Number, b)
+        ),
         "{p} {modulus:?}"
     );
     Ok(false)
@@ -80,7 +84,7 @@ fn count_fields(
     degree: u32,
     count: u32,
 ) -> Result<u32, Fail> {
-    let constants = Modulo(p);
+    let constants = Modulo(p as Number);
     let mut fields: u32 = 0;
     for a in 0..count {
         let modulus = monic(alloc, p, degree, a)?;

@@ -10,16 +10,19 @@ const MOST: usize = 16;
 /// How many places a list of digits has: those of a product of two residues.
 pub const ROOM: usize = 32;
 
+/// An element of a ring, and a digit of one: the field of 251 elements and degree 16 has fewer than `2^128`.
+pub type Number = u128;
+
 /// A list of digits, lowest first, 0 past its end.
-pub type Digits = [u32; ROOM];
+pub type Digits = [Number; ROOM];
 
 /// `a` modulo `p`.
-pub fn remainder(a: u32, p: u32) -> u32 {
+pub fn remainder(a: Number, p: Number) -> Number {
     a.checked_rem(p).unwrap_or(a)
 }
 
 /// The `n` lowest digits of `a`.
-pub fn digits(base: u32, n: usize, a: u32) -> Digits
+pub fn digits(base: Number, n: usize, a: Number) -> Digits
     requires { n ≤ ROOM }
 {
     let mut list = [0; ROOM];
@@ -32,8 +35,8 @@ pub fn digits(base: u32, n: usize, a: u32) -> Digits
 }
 
 /// The number with these digits.
-pub fn number(base: u32, list: &Digits) -> u32 {
-    let mut a: u32 = 0;
+pub fn number(base: Number, list: &Digits) -> Number {
+    let mut a: Number = 0;
     for i in (0..ROOM).rev() {
         a = a.wrapping_mul(base).wrapping_add(list[i]);
     }
@@ -43,36 +46,36 @@ pub fn number(base: u32, list: &Digits) -> u32 {
 /// A ring whose elements are the numbers below its size, with 0 as its zero and 1 as its one.
 pub trait Numbers {
     /// How many elements there are.
-    fn size(&self) -> u32;
+    fn size(&self) -> Number;
 
     /// The sum.
-    fn add(&self, a: u32, b: u32) -> u32;
+    fn add(&self, a: Number, b: Number) -> Number;
 
     /// The negative.
-    fn neg(&self, a: u32) -> u32;
+    fn neg(&self, a: Number) -> Number;
 
     /// The product.
-    fn mul(&self, a: u32, b: u32) -> u32;
+    fn mul(&self, a: Number, b: Number) -> Number;
 }
 
 /// The numbers modulo a prime.
 #[derive(Drop)]
-pub struct Modulo(pub u32);
+pub struct Modulo(pub Number);
 
 impl Numbers for Modulo {
-    fn size(&self) -> u32 {
+    fn size(&self) -> Number {
         self.0
     }
 
-    fn add(&self, a: u32, b: u32) -> u32 {
+    fn add(&self, a: Number, b: Number) -> Number {
         remainder(a.wrapping_add(b), self.0)
     }
 
-    fn neg(&self, a: u32) -> u32 {
+    fn neg(&self, a: Number) -> Number {
         remainder(self.0.wrapping_sub(a), self.0)
     }
 
-    fn mul(&self, a: u32, b: u32) -> u32 {
+    fn mul(&self, a: Number, b: Number) -> Number {
         remainder(a.wrapping_mul(b), self.0)
     }
 }
@@ -92,7 +95,7 @@ impl<'k, N: Numbers> Residues<'k, N> {
         let degree = modulus.len().saturating_sub(1).min(MOST);
         let mut list = [0; ROOM];
         for i in 0..degree + 1 {
-            list[i] = modulus.get(i).copied().unwrap_or(0);
+            list[i] = modulus.get(i).copied().unwrap_or(0) as Number;
         }
         Residues {
             constants,
@@ -101,16 +104,16 @@ impl<'k, N: Numbers> Residues<'k, N> {
         }
     }
 
-    fn digits(&self, a: u32) -> Digits {
+    fn digits(&self, a: Number) -> Digits {
         digits(self.constants.size(), self.degree, a)
     }
 
-    fn number(&self, list: &Digits) -> u32 {
+    fn number(&self, list: &Digits) -> Number {
         number(self.constants.size(), list)
     }
 
     /// Adds `c` times the first `n` members of `row` to `sum`, from `place` on.
-    fn add_scaled(&self, sum: &mut Digits, place: usize, c: u32, row: &Digits, n: usize)
+    fn add_scaled(&self, sum: &mut Digits, place: usize, c: Number, row: &Digits, n: usize)
         requires { place + n ≤ ROOM }
     {
         for j in 0..n {
@@ -141,21 +144,21 @@ impl<'k, N: Numbers> Residues<'k, N> {
 }
 
 impl<'k, N: Numbers> Numbers for Residues<'k, N> {
-    fn size(&self) -> u32 {
-        let mut size: u32 = 1;
+    fn size(&self) -> Number {
+        let mut size: Number = 1;
         for _ in 0..self.degree {
             size = size.wrapping_mul(self.constants.size());
         }
         size
     }
 
-    fn add(&self, a: u32, b: u32) -> u32 {
+    fn add(&self, a: Number, b: Number) -> Number {
         let mut sum = self.digits(a);
         self.add_scaled(&mut sum, 0, 1, &self.digits(b), self.degree);
         self.number(&sum)
     }
 
-    fn neg(&self, a: u32) -> u32 {
+    fn neg(&self, a: Number) -> Number {
         let mut list = self.digits(a);
         for i in 0..self.degree {
             list[i] = self.constants.neg(list[i]);
@@ -163,20 +166,20 @@ impl<'k, N: Numbers> Numbers for Residues<'k, N> {
         self.number(&list)
     }
 
-    fn mul(&self, a: u32, b: u32) -> u32 {
+    fn mul(&self, a: Number, b: Number) -> Number {
         let product = self.product(&self.digits(a), &self.digits(b));
         self.number(&self.rest(product))
     }
 }
 
 /// Whether neither of `a` and `b` is zero, and their product is.
-pub fn is_pair<N: Numbers>(ring: &N, a: u32, b: u32) -> bool {
+pub fn is_pair<N: Numbers>(ring: &N, a: Number, b: Number) -> bool {
     let are_nonzero = a != 0 && b != 0 && a < ring.size() && b < ring.size();
     are_nonzero && ring.mul(a, b) == 0
 }
 
 /// Whether `a` has a partner with which it is a pair.
-fn has_partner<N: Numbers>(ring: &N, a: u32) -> bool {
+fn has_partner<N: Numbers>(ring: &N, a: Number) -> bool {
     for b in 1..ring.size() {
         if is_pair(ring, a, b) {
             return true;
@@ -196,7 +199,7 @@ pub fn has_pair<N: Numbers>(ring: &N) -> bool {
 }
 
 /// `a` multiplied `k` times, product by product.
-fn power<N: Numbers>(ring: &N, a: u32, k: u32) -> u32 {
+fn power<N: Numbers>(ring: &N, a: Number, k: u32) -> Number {
     let mut power = 1;
     for _ in 0..k {
         power = ring.mul(power, a);
@@ -205,7 +208,7 @@ fn power<N: Numbers>(ring: &N, a: u32, k: u32) -> u32 {
 }
 
 /// The power of `a` by `p^s`: the power by `p`, `s` times over.
-pub fn next_power<N: Numbers>(ring: &N, (p, s): (u32, u32), a: u32) -> u32 {
+pub fn next_power<N: Numbers>(ring: &N, (p, s): (u32, u32), a: Number) -> Number {
     let mut next = a;
     for _ in 0..s {
         next = power(ring, next, p);
@@ -218,8 +221,14 @@ pub fn next_sample(state: u32) -> u32 {
     state.wrapping_mul(1_664_525).wrapping_add(1_013_904_223)
 }
 
-/// The element that a number of the sequence stands for: its lowest bits, which repeat soon, are left
-/// out.
-pub fn sample_element(state: u32, size: u32) -> u32 {
-    remainder(state >> 6, size)
+/// The element that five numbers of the sequence from `state` on stand for: their lowest bits, which repeat soon, are
+/// left out.
+pub fn sample_element(state: u32, size: Number) -> Number {
+    let mut drawn: Number = 0;
+    let mut next = state;
+    for _ in 0..5 {
+        drawn = (drawn << 26) | (next >> 6) as Number;
+        next = next_sample(next);
+    }
+    remainder(drawn, size)
 }

@@ -1,6 +1,6 @@
 //! What making fields answers, row by row.
 
-use super::plain::{Modulo, Numbers, Residues, is_pair};
+use super::plain::{Modulo, Number, Numbers, Residues, is_pair};
 use field_tower::{BaseFault, BaseField, TopElem, Tower, TowerFault, TowerRefused, WIDTH};
 use ring_core::lists::all_elems;
 use std::alloc::Global;
@@ -14,12 +14,14 @@ const BASES: &str = "2 1; 0 1 => field
 251 1; 0 1 => field
 2 8; 1 1 0 1 1 0 0 0 1 => field
 3 2; 1 0 4 => field
+257 1; 0 1 => field
+251 2; 1 0 1 => field
 4 1; 0 1 => too large
-257 1; 0 1 => too large
+263 1; 0 1 => too large
 0 1; 0 1 => too large
 2 0; 1 => too large
-2 9; 1 => too large
-251 2; 1 0 1 => too large
+2 17; 1 => too large
+257 2; 1 1 1 => too large
 2 2; 1 1 => bad modulus
 2 2; 1 1 1 1 => bad modulus
 3 2; 1 0 5 => bad modulus
@@ -53,12 +55,12 @@ const PAIRS: &str = "5 1; 0 1 | 2; 1 0 1 => 3 1; 2 1
 /// The name of what `BaseField::make` answers. A field must have the size that the data say, and a
 /// pair must be one by the plain product.
 fn base_answer(rt: &impl Abort, alloc: Global, data: &BaseData) -> &'static str {
-    let constants = Modulo(data.p);
+    let constants = Modulo(data.p as Number);
     let plain = Residues::new(&constants, &data.modulus);
     match BaseField::make(alloc, data.p, data.s, &data.modulus) {
         Ok(field) => {
             assert_eq!(rt;
-                (field.p(), field.s(), field.q()),
+                (field.p(), field.s(), field.q() as Number),
                 (data.p, data.s, plain.size())
             );
             "field"
@@ -66,7 +68,7 @@ fn base_answer(rt: &impl Abort, alloc: Global, data: &BaseData) -> &'static str 
         Err(BaseFault::TooLarge) => "too large",
         Err(BaseFault::BadModulus) => "bad modulus",
         Err(BaseFault::ZeroDivisors { a, b }) => {
-            assert!(rt; is_pair(&plain, a as u32, b as u32), "{a} {b}");
+            assert!(rt; is_pair(&plain, a as Number, b as Number), "{a} {b}");
             "zero divisors"
         }
         Err(BaseFault::NoMemory) => "no memory",

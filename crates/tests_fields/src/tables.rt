@@ -1,6 +1,6 @@
 //! Sums, products, negatives and inverses of base fields against the plain computation.
 
-use super::plain::{Modulo, Numbers, Residues, next_sample, sample_element};
+use super::plain::{Modulo, Number, Numbers, Residues, next_sample, sample_element};
 use field_tower::{BaseField, Code};
 use ring_core::Field;
 use std::alloc::Global;
@@ -43,8 +43,16 @@ const LARGE: &str = "5 2; 3 0 1
 251 1; 0 1
 2 8; 1 1 0 1 1 0 0 0 1";
 
+/// Fields of more than 256 elements: the numbers modulo 257, `a^16 + a^5 + a^3 + a + 1` over 2, `a^10 - a^2 + 1` over 3,
+/// `a^4 + a + 1` over 13 and `a^2 + 1` over 251.
+const WIDE: &str = "257 1; 0 1
+2 16; 1 1 0 1 0 1 0 0 0 0 0 0 0 0 0 0 1
+3 10; 1 0 2 0 0 0 0 0 0 0 1
+13 4; 1 1 0 0 1
+251 2; 1 0 1";
+
 /// The element with this number.
-fn member(field: &BaseField, number: u32) -> Result<Code, Fail> {
+fn member(field: &BaseField, number: Number) -> Result<Code, Fail> {
     let a = Code::try_from(number)?;
     if field.is_elem(a) {
         Ok(a)
@@ -58,14 +66,14 @@ fn check_pair<N: Numbers>(
     rt: &impl Abort,
     field: &BaseField,
     plain: &N,
-    a: u32,
-    b: u32,
+    a: Number,
+    b: Number,
 ) -> Result<(), Fail> {
     let left = member(field, a)?;
     let right = member(field, b)?;
     assert!(rt; field.is_elem(left) && field.is_elem(right));
-    assert_eq!(rt; field.add(left, right) as u32, plain.add(a, b), "{a} + {b}");
-    assert_eq!(rt; field.mul(left, right) as u32, plain.mul(a, b), "{a} {b}");
+    assert_eq!(rt; field.add(left, right) as Number, plain.add(a, b), "{a} + {b}");
+    assert_eq!(rt; field.mul(left, right) as Number, plain.mul(a, b), "{a} {b}");
     Ok(())
 }
 
@@ -75,16 +83,16 @@ fn check_one<N: Numbers>(
     rt: &impl Abort,
     field: &BaseField,
     plain: &N,
-    a: u32,
+    a: Number,
 ) -> Result<(), Fail> {
     let member = member(field, a)?;
     assert!(rt; field.is_elem(member));
-    assert_eq!(rt; field.neg(member) as u32, plain.neg(a), "-{a}");
+    assert_eq!(rt; field.neg(member) as Number, plain.neg(a), "-{a}");
     match field.inv(member) {
         None => assert_eq!(rt; a, 0),
         Some(inverse) => {
             assert!(rt; field.is_elem(inverse), "{a}");
-            assert_eq!(rt; plain.mul(a, inverse as u32), 1, "{a}");
+            assert_eq!(rt; plain.mul(a, inverse as Number), 1, "{a}");
         }
     }
     Ok(())
@@ -94,7 +102,7 @@ fn check_all_with<N: Numbers>(
     rt: &impl Abort,
     field: &BaseField,
     plain: &N,
-    a: u32,
+    a: Number,
 ) -> Result<(), Fail> {
     for b in 0..plain.size() {
         check_pair(rt, field, plain, a, b)?;
@@ -114,29 +122,36 @@ fn check_sample<N: Numbers>(rt: &impl Abort, field: &BaseField, plain: &N) -> Re
     for _ in 0..500 {
         state = next_sample(state);
         let a = sample_element(state, plain.size());
+        check_one(rt, field, plain, a)?;
         state = next_sample(state);
         check_pair(rt, field, plain, a, sample_element(state, plain.size()))?;
     }
     Ok(())
 }
 
-/// Zero, one, the size and every element of the field of a row, and all pairs or a sample.
-fn check_field(rt: &impl Abort, alloc: Global, row: &str, all_pairs: bool) -> Result<(), Fail> {
+/// Every element of the field, and all pairs of them.
+fn check_whole<N: Numbers>(rt: &impl Abort, field: &BaseField, plain: &N) -> Result<(), Fail> {
+    for a in 0..plain.size() {
+        check_one(rt, field, plain, a)?;
+    }
+    check_all_pairs(rt, field, plain)
+}
+
+/// Zero, one and the size of the field of a row, and all of its elements or a sample.
+fn check_field(rt: &impl Abort, alloc: Global, row: &str, whole: bool) -> Result<(), Fail> {
     let data = base_data(alloc, row)?;
     let field = make_base(alloc, &data)?;
-    let constants = Modulo(data.p);
+    let constants = Modulo(data.p as Number);
     let plain = Residues::new(&constants, &data.modulus);
     assert_eq!(rt;
-        (field.p(), field.s(), field.q()),
+        (field.p(), field.s(), field.q() as Number),
         (data.p, data.s, plain.size())
     );
     assert_eq!(rt; (field.zero(), field.one()), (0, 1));
-    for a in 0..plain.size() {
-        check_one(rt, &field, &plain, a)?;
-    }
-    if all_pairs {
-        check_all_pairs(rt, &field, &plain)
+    if whole {
+        check_whole(rt, &field, &plain)
     } else {
+        check_one(rt, &field, &plain, 0)?;
         check_sample(rt, &field, &plain)
     }
 }
@@ -152,6 +167,14 @@ fn small_fields(rt: HostRuntime) -> Result<(), Fail> {
 #[test]
 fn large_fields(rt: HostRuntime) -> Result<(), Fail> {
     for row in LARGE.split('\n') {
+        check_field(&rt, rt.alloc(), row, false)?;
+    }
+    Ok(())
+}
+
+#[test]
+fn wide_fields(rt: HostRuntime) -> Result<(), Fail> {
+    for row in WIDE.split('\n') {
         check_field(&rt, rt.alloc(), row, false)?;
     }
     Ok(())

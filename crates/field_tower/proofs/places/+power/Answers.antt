@@ -29,3 +29,12 @@ returns-else-k-eq0-2-clause-value g t c =
     c.mul.ensures.value
     ∙ ap (λ x. ops.mul x c.args.a) (c.mul-square.ensures.value ∙ ap₂ ops.mul c.power-half.ensures.value c.power-half.ensures.value)
     ∙ sym (power-odd ops (stored_ring r field.ring modulus c.requires.monic field.mul_comm) c.args.a c.args.k c.requires.elem odd)
+
+pub returns-then-k-eq1-clause-value : goal.returns-then-k-eq1-clause-value
+returns-then-k-eq1-clause-value g t c =
+    let r = g.F.Field.ops c.args.field.now in
+    let field = g.met.F.Field.laws c.args.field.now in
+    let modulus = c.args.modulus.now in
+    let ops = stored_ops r modulus in
+    let ring = stored_ring r field.ring modulus c.requires.monic field.mul_comm in
+    sym (ring.one_mul c.args.a c.requires.elem) ∙ ap (power_of ops c.args.a) (sym c.if-k-eq1.true)

@@ -5,7 +5,7 @@ use Rattle.ring_core.proofs.Coefficients.{coeff-first_values, elems_take}
 use Rattle.ring_core.proofs.FirstValues.{length-first_values}
 use Rattle.linear_algebra.specs.Linear.{entry, IsSolution}
 use Rattle.linear_algebra.proofs.RowLists.{row_len}
-use Rattle.fq_linear.specs.steps.Elimination.{IsEliminated, IsReducedTable, augmented}
+use Rattle.fq_linear.specs.steps.Elimination.{IsEliminated, IsLedTable, augmented}
 use Rattle.fq_linear.proofs.Results.{solved, unsolved, reduced_as, not_both}
 use Rattle.fq_linear.proofs.Solutions.{same_solution}
 use Rattle.fq_linear.proofs.systems.solve.Goals as goal
@@ -48,8 +48,8 @@ reduce_target-requires-clause-table g c =
       ap length c.deref.ensures.value,
       table.index_len,
     ) in
-    subst (λ m. IsReducedTable r m c.deref.result.now c.deref-2.result.now) (sym wide)
-    (subst₂ (IsReducedTable r (c.len-n.result + c.args.rows.now.width)) (sym c.deref.ensures.value) (sym c.deref-2.ensures.value) table)
+    subst (λ m. IsLedTable r m c.deref.result.now c.deref-2.result.now) (sym wide)
+    (subst₂ (IsLedTable r (c.len-n.result + c.args.rows.now.width)) (sym c.deref.ensures.value) (sym c.deref-2.ensures.value) table)
 
 pub returns-then-not-reduce_target : goal.returns-then-not-reduce_target
 returns-then-not-reduce_target g c =

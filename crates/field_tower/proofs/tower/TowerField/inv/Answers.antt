@@ -1,49 +1,38 @@
-use Rattle.std.proofs.Common.{◌≡◌, ◌-◌, ◌^◌, ◌≤◌, true, sym, ap, subst, ◌∙◌}
+use Rattle.std.proofs.Common.{slice_index_or, Some, sym, ap, ap₂, subst, ◌∙◌}
 use Rattle.ring_core.specs.Ring.{IsElem}
-use Rattle.ring_core.specs.Coeffs.{are_elems}
-use Rattle.ring_core.specs.Powers.{power_of}
-use Rattle.residue_field.specs.TopElem.{top_places}
-use Rattle.residue_field.specs.Base.{ops_of, size_of}
+use Rattle.residue_field.specs.Base.{ops_of, inverse_of}
 use Rattle.residue_field.specs.Top.{ops_of_top}
-use Rattle.field_tower.specs.steps.Places.{stored}
-use Rattle.field_tower.proofs.BaseValues.{size_large}
-use Rattle.field_tower.proofs.TopValues.{ops-inside, top-same_zero, top_elems, inverse_nothing, inverse_power}
+use Rattle.field_tower.proofs.TopNorm.{place_none, norm_in, inverse_of_zero, inverse_in, inverse_by_norm}
 use Rattle.field_tower.proofs.tower.TowerField.inv.Goals as goal
 
-pub is_zero-requires : goal.is_zero-requires
-is_zero-requires c =
-    let a = c.args.a in
-    subst (λ t. are_elems (ops_of t.base) a.0 ≡ true) (sym c.self.view_is) (top_elems c.args.self.now a c.requires)
+pub inv-requires : goal.inv-requires
+inv-requires c =
+    let t = c.args.self.now in
+    let x = c.mul-norm.result in
+    let is = c.mul-norm.ensures.value ∙ ap (λ y. (ops_of_top t).mul y c.args.a) c.conjugates-others.ensures.value in
+    subst (λ k. IsElem (ops_of k.base) (slice_index_or x.0 0 0)) (sym c.self.view_is) (norm_in t c.args.a c.requires x is _ (place_none t x))
 
-pub power_less_two-requires-clause-size : goal.power_less_two-requires-clause-size
-power_less_two-requires-clause-size c = subst (λ n. 2 ≤ n) (sym c.q.ensures.value) (size_large c.self.inside.base)
+pub embed-requires : goal.embed-requires
+embed-requires c =
+    let t = c.args.self.now in
+    let x = c.mul-norm.result in
+    let is = c.mul-norm.ensures.value ∙ ap (λ y. (ops_of_top t).mul y c.args.a) c.conjugates-others.ensures.value in
+    inverse_in t c.args.a c.requires x is _ c.in-Some.d (place_none t x)
+    (sym (ap (λ k. inverse_of k.base (slice_index_or x.0 0 0)) c.self.view_is) ∙ sym c.inv.ensures.value ∙ c.in-Some.is)
 
-pub power_less_two-requires-clause-elem : goal.power_less_two-requires-clause-elem
-power_less_two-requires-clause-elem c =
-    subst (λ r. IsElem r c.args.a) (sym (ops-inside _ c.args.self.now c.self.view_is _ c.deref.ensures.value)) c.requires
+pub returns-in-None-clause-value : goal.returns-in-None-clause-value
+returns-in-None-clause-value c =
+    let t = c.args.self.now in
+    let x = c.mul-norm.result in
+    let is = c.mul-norm.ensures.value ∙ ap (λ y. (ops_of_top t).mul y c.args.a) c.conjugates-others.ensures.value in
+    inverse_of_zero t c.args.a c.requires x is _ (place_none t x)
+    (sym (ap (λ k. inverse_of k.base (slice_index_or x.0 0 0)) c.self.view_is) ∙ sym c.inv.ensures.value ∙ c.in-None.is)
 
-pub returns-then-is_zero-clause-value : goal.returns-then-is_zero-clause-value
-returns-then-is_zero-clause-value c =
-    let a = c.args.a in
-    let inside = c.self.inside in
-    inverse_nothing c.args.self.now a
-    (sym (top-same_zero c.args.self.now a)
-    ∙ sym (c.is_zero.ensures (inside.n - 1) ∙ ap (λ t. (top_places (ops_of t.base) (t.n - 1)).same a (stored (ops_of t.base) (t.n - 1) (λ i. (ops_of t.base).zero))) c.self.view_is)
-    ∙ c.if-is_zero.true)
-
-pub returns-else-is_zero-clause-value : goal.returns-else-is_zero-clause-value
-returns-else-is_zero-clause-value c =
-    let a = c.args.a in
-    let inside = c.self.inside in
-    inverse_power c.args.self.now a c.power_less_two.result
-    (sym (top-same_zero c.args.self.now a)
-    ∙ sym (c.is_zero.ensures (inside.n - 1) ∙ ap (λ t. (top_places (ops_of t.base) (t.n - 1)).same a (stored (ops_of t.base) (t.n - 1) (λ i. (ops_of t.base).zero))) c.self.view_is)
-    ∙ c.if-is_zero.false)
-    (c.power_less_two.ensures.value
-    ∙ ap (λ r. power_of r a (c.q.result ^ inside.n - 2)) (ops-inside _ c.args.self.now c.self.view_is _ c.deref.ensures.value)
-    ∙ ap (λ q. power_of (ops_of_top c.args.self.now) a (q ^ inside.n - 2)) c.q.ensures.value
-    ∙ ap (λ t. power_of (ops_of_top c.args.self.now) a (size_of t.base ^ t.n - 2)) c.self.view_is)
-
-pub returns-else-is_zero-clause-elem : goal.returns-else-is_zero-clause-elem
-returns-else-is_zero-clause-elem c =
-    subst (λ r. IsElem r c.power_less_two.result) (ops-inside _ c.args.self.now c.self.view_is _ c.deref.ensures.value) c.power_less_two.ensures.elem
+pub returns-in-Some-clause-value : goal.returns-in-Some-clause-value
+returns-in-Some-clause-value c =
+    let t = c.args.self.now in
+    let x = c.mul-norm.result in
+    let is = c.mul-norm.ensures.value ∙ ap (λ y. (ops_of_top t).mul y c.args.a) c.conjugates-others.ensures.value in
+    ap Some (c.mul.ensures.value ∙ ap₂ (ops_of_top t).mul c.conjugates-others.ensures.value c.embed.ensures.value)
+    ∙ inverse_by_norm t c.args.a c.requires x is _ c.in-Some.d (place_none t x)
+    (sym (ap (λ k. inverse_of k.base (slice_index_or x.0 0 0)) c.self.view_is) ∙ sym c.inv.ensures.value ∙ c.in-Some.is)
