@@ -1,4 +1,4 @@
-use Rattle.std.proofs.Common.{◌<◌, ◌≤◌, ◌+◌, ◌-◌, ◌*◌, ◌/◌, ◌∙◌, arith}
+use Rattle.std.proofs.Common.{◌≤◌, ◌*◌, ◌∙◌, arith}
 use Rattle.field_tower.proofs.Reciprocal.{quotient_low, quotient_high, remainder_same}
 use Rattle.field_tower.proofs.base.remainder.Goals as goal
 
