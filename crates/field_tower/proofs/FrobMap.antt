@@ -89,6 +89,13 @@ module _ (t : Top) (images : List TopElem) (count : ℕ) (are : images ≡ first
       ap (λ x. are_elems (ops_of t.base) x.0) (image-read images count (frob_image t.base t.n t.modulus) are k low)
       ∙ top_elems t _ (image_in t.base t.n t.modulus (positive_degree t) (top_shape_of t) k)
 
+  pub part_stored : (k : ℕ) → k < length images → IsStored (ops_of t.base) (t.n - 1) (image_at images k)
+  part_stored k l =
+      let len : length images ≡ count = images_count images count (frob_image t.base t.n t.modulus) are in
+      let low : k < count = omega arith in
+      subst (IsStored (ops_of t.base) (t.n - 1)) (sym (image-read images count (frob_image t.base t.n t.modulus) are k low))
+      (stored_elem t _ (image_in t.base t.n t.modulus (positive_degree t) (top_shape_of t) k))
+
   -- the images are zero past the degree
   pub part_past : (k i : ℕ) → k < length images → t.n ≤ i → slice_index (image_at images k).0 i ≡ 0
   part_past k i l past =
@@ -144,6 +151,9 @@ module _ (t : Top) (images : List TopElem) (are : images ≡ first_values (t.n *
   -- the images are elements
   pub images_elems : (k : ℕ) → k < length images → are_elems (ops_of t.base) (image_at images k).0 ≡ true
   images_elems = part_elems t images (t.n * t.n) are
+
+  pub images_stored : (k : ℕ) → k < length images → IsStored (ops_of t.base) (t.n - 1) (image_at images k)
+  images_stored = part_stored t images (t.n * t.n) are
 
   pub images_past : (k i : ℕ) → k < length images → t.n ≤ i → slice_index (image_at images k).0 i ≡ 0
   images_past = part_past t images (t.n * t.n) are
