@@ -102,11 +102,13 @@ impl Tower {
         ensures { MakesTop base n modulus.now result }
     {
         match Tower::parts(alloc, &base, n, modulus) {
-            Ok(TopParts {
-                modulus,
-                images,
-                letters,
-            }) => Ok(Tower {
+            Ok(
+                TopParts {
+                    modulus,
+                    images,
+                    letters,
+                },
+            ) => Ok(Tower {
                 base,
                 n,
                 modulus,
