@@ -211,9 +211,17 @@ fn first_extent<F: Field>(f: &F, i: usize, offset: usize, row: &[E<F>]) -> Exten
     let low = lesser(i, offset);
     let high = first_place(f, offset, row);
     if i < offset {
-        return Extent { low, end: i + 1, high };
+        return Extent {
+            low,
+            end: i + 1,
+            high,
+        };
     }
-    Extent { low, end: offset, high }
+    Extent {
+        low,
+        end: offset,
+        high,
+    }
 }
 
 /// Inserts each of the `n` rows of `source`, which have the width `width`, with row `i` of the unit matrix of

@@ -3,6 +3,7 @@
 #![tactic(auto)]
 
 pub mod laws;
+mod product;
 mod terms;
 mod twisted;
 

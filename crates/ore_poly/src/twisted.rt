@@ -8,11 +8,12 @@ ghost use Rattle.ring_core.proofs.Twist.{frob_twist};
 ghost use Rattle.ring_core.specs.Degrees.{degree_of};
 ghost use Rattle.ore_poly.specs.Terms.{IsLowest, applied_at};
 
+use super::product::twisted_product;
 use super::terms::{apply_list, lowest_place, raise_row, shifted_list};
 use ring_core::lists::{
     are_canonical, copy_list, equal_lists, neg_list, single_list, sum_list, trimmed,
 };
-use ring_core::product::{product_list, scaled_list};
+use ring_core::product::scaled_list;
 use ring_core::{E, Field, FrobField, NoMemory, Ring, TwistedRing};
 use std::alloc::Global;
 use std::marker::Model;
@@ -201,7 +202,7 @@ impl<'k, K: FrobField> Ring for OreRing<'k, K> {
     }
 
     fn mul(&self, alloc: Global, a: &Ore<E<K>>, b: &Ore<E<K>>) -> Result<Ore<E<K>>, NoMemory> {
-        let coeffs = product_list(alloc, self, &a.coeffs, &b.coeffs)?;
+        let coeffs = twisted_product(alloc, self.field, &a.coeffs, &b.coeffs)?;
         Ok(Ore { coeffs })
     }
 
