@@ -1,4 +1,5 @@
 pub mod Rows
+pub mod PackedBits
 pub mod Writes
 pub mod Stored
 pub mod FilledPlaces
@@ -23,7 +24,6 @@ pub mod Kernels
 pub mod PairValues
 pub mod ConstantValues
 pub mod CodePairs
-pub mod Reciprocal
 pub mod RowValues
 pub mod LaneValues
 pub mod PlainSums
@@ -31,3 +31,4 @@ pub mod ModularForms
 pub mod PowerRows
 pub mod Sliding
 pub mod ModularProduct
+pub mod LetterRows

@@ -1,21 +1,17 @@
 -- Products with one code as a row, steps in it as powers, and products by logarithms.
-use native.Mathlib.Nat.{pow-le-pow_right, pow-zero}
-use Rattle.std.proofs.Common.{◌≡◌, ◌≢◌, inl, inr, ℕ, zero, suc, ◌+◌, ◌-◌, ◌*◌, ◌^◌, ◌<◌, ◌≤◌, true, List, length, slice_index, nat_lt, sym, ap, ap₂, subst, ◌∙◌, arith, lt-ltb, ltb-true}
+use Rattle.std.proofs.Common.{◌≡◌, inl, inr, ℕ, zero, suc, ◌+◌, ◌-◌, ◌*◌, ◌^◌, ◌<◌, ◌≤◌, List, length, slice_index, nat_lt, sym, ap, ap₂, subst, ◌∙◌, arith, lt-ltb, ltb-true}
 use Rattle.std.proofs.lemmas.Bool.{cases_eq, cond-true, cond-false, le-ltb}
 use Rattle.ring_core.specs.Ring.{RingOps, IsElem, IsRing}
 use Rattle.ring_core.specs.Coeffs.{first_values}
 use Rattle.ring_core.specs.Powers.{power_of}
 use Rattle.ring_core.proofs.Carrier.{elements, zero_mul, mul_zero}
 use Rattle.ring_core.proofs.FirstValues.{length-first_values, at-first_values}
-use Rattle.ring_core.proofs.PowerLaws.{power_in, power-add}
-use Rattle.residue_field.specs.Prime.{is_listed, prime_ops}
+use Rattle.ring_core.proofs.PowerLaws.{power-add}
 use Rattle.residue_field.specs.Base.{base_ops}
 use Rattle.residue_field.proofs.BaseLaws.{IsBaseShape, shape_ring}
-use Rattle.field_tower.specs.steps.Places.{IsModulus}
 use Rattle.field_tower.specs.steps.Tables.{IsRow}
 use Rattle.field_tower.specs.steps.Logs.{steps_from_one, steps_below, AreSteps, AreLogs, IsLogTable}
 use Rattle.field_tower.proofs.BaseValues.{base-zero, base-one}
-use Rattle.field_tower.proofs.CodeForms.{shape_from_modulus}
 
 pub step_inside : (row : List ℕ) → AreSteps row → (i : ℕ) → steps_from_one row i < length row
 step_inside row steps zero = steps.large

@@ -1,5 +1,5 @@
 -- The inverse from the norm, which is an element of the base.
-use Rattle.std.proofs.Common.{◌≡◌, ◌≢◌, ℕ, zero, suc, ◌+◌, Option, Some, None, MatchOption, sym, refl, ap, subst, ◌∙◌, arith}
+use Rattle.std.proofs.Common.{◌≡◌, ◌≢◌, ℕ, zero, suc, ◌+◌, Option, Some, None, MatchOption, sym, refl, ap, ◌∙◌, arith}
 use Rattle.ring_core.specs.Ring.{RingOps, IsElem}
 use Rattle.ring_core.specs.Field.{FrobOps, IsField, IsFrobField}
 use Rattle.ring_core.proofs.Carrier.{elements, zero_mul}

@@ -1,7 +1,7 @@
 -- Remainders by a reciprocal: with `m` the quotient of `k` by `p`, the quotient of `x` by `p` is that of `x m` by `k`
 -- or a little more.
-use Rattle.std.proofs.Common.{◌≡◌, ℕ, ◌+◌, ◌-◌, ◌*◌, ◌/◌, ◌%◌, ◌<◌, ◌≤◌, sym, ap, subst, ◌∙◌, arith, mul_assoc, mul_comm, mul_right_comm, mul-add, add-mul, mod-lt, div-mul-le_self, le_of_mul-le-mul_right, lt_of_mul-lt-mul_right}
 use native.Mathlib.Nat.{add-mul-mod_self_left}
+use Rattle.std.proofs.Common.{◌≡◌, ℕ, ◌+◌, ◌-◌, ◌*◌, ◌/◌, ◌%◌, ◌<◌, ◌≤◌, sym, ap, subst, ◌∙◌, arith, mul_assoc, mul_comm, mul_right_comm, mul-add, add-mul, mod-lt, div-mul-le_self, le_of_mul-le-mul_right, lt_of_mul-lt-mul_right}
 use Rattle.std.proofs.lemmas.Nat.{mul-le, div-add-mod', mod-mul-add}
 
 module _ (k p x m : ℕ) (positive : 0 < p) (is : m ≡ k / p) (some : 0 < k) where
@@ -50,12 +50,13 @@ module _ (k p x m : ℕ) (positive : 0 < p) (is : m ≡ k / p) (some : 0 < k) wh
           lt_of_mul-lt-mul_right k g
 
   pub remainder_same : (x - x * m / k * p) % p ≡ x % p
-  remainder_same =
-      let q = x * m / k in
-      let low = quotient_low in
-      let turn = mul_comm p q in
-      let whole : x ≡ (x - q * p) + p * q = omega arith in
-      sym (ap (λ n. n % p) whole ∙ add-mul-mod_self_left (x - q * p) p q)
+  remainder_same = rest_same (x * m / k) quotient_low
+    where
+      rest_same : (q : ℕ) → q * p ≤ x → (x - q * p) % p ≡ x % p
+      rest_same q l =
+          let turn = mul_comm p q in
+          let whole : x ≡ (x - q * p) + p * q = omega arith in
+          sym (ap (λ n. n % p) whole ∙ add-mul-mod_self_left (x - q * p) p q)
 
 -- what is left after `n` times `p` more is the remainder, once it is below `p`
 pub remainder_is : (p x q n w : ℕ) → q * p + (n * p + w) ≡ x → w < p → w ≡ x % p
@@ -65,26 +66,29 @@ remainder_is p x q n w e l =
     sym (ap (λ y. y % p) (sym whole) ∙ mod-mul-add (q + n) p w l)
 
 -- what a row operation modulo `p` adds up to, before it is reduced
-module _ (p a c b : ℕ) (small : p ≤ 257) (a_below : a < p) (c_below : c < p) (b_below : b < p) where
-  sum-le : a + c * b ≤ (p - 1) * p
-  sum-le =
-      let product : c * b ≤ (p - 1) * (p - 1) = mul-le c b (p - 1) (p - 1) (omega arith) (omega arith) in
-      let whole : (p - 1) * ((p - 1) + 1) ≡ (p - 1) * (p - 1) + (p - 1) * 1 = mul-add (p - 1) (p - 1) 1 in
-      let next : (p - 1) + 1 ≡ p = omega arith in
-      let same : (p - 1) * ((p - 1) + 1) ≡ (p - 1) * p = ap (λ n. (p - 1) * n) next in
-      omega arith
+module _ (p a c b n : ℕ) (small : p ≤ n + 1) (a_below : a < p) (c_below : c < p) (b_below : b < p) where
+  pub product_small : c * b ≤ n * n
+  product_small = mul-le c b n n (omega arith) (omega arith)
 
-  pub sum_small : a + c * b ≤ 65792
+  pub sum_small : a + c * b ≤ n * (n + 1)
   sum_small =
-      let most : (p - 1) * p ≤ 256 * 257 = mul-le (p - 1) p 256 257 (omega arith) small in
-      let sum = sum-le in
+      let product = product_small in
+      let whole : n * (n + 1) ≡ n * n + n * 1 = mul-add n n 1 in
       omega arith
 
-  pub scaled_small : (k m : ℕ) → m ≡ k / p → (a + c * b) * m ≤ 256 * k
+  pub scaled_small : (k m : ℕ) → m ≡ k / p → (a + c * b) * m ≤ n * k
   scaled_small k m is =
       let low : m * p ≤ k = subst (λ n. n * p ≤ k) (sym is) (div-mul-le_self k p) in
-      let scaled : (a + c * b) * m ≤ ((p - 1) * p) * m = mul-le (a + c * b) m ((p - 1) * p) m sum-le (omega arith) in
+      let scaled : (a + c * b) * m ≤ ((p - 1) * p) * m = mul-le (a + c * b) m ((p - 1) * p) m sum_low (omega arith) in
       let turned : ((p - 1) * p) * m ≡ (p - 1) * (p * m) = mul_assoc (p - 1) p m in
       let swapped : (p - 1) * (p * m) ≡ (p - 1) * (m * p) = ap (λ n. (p - 1) * n) (mul_comm p m) in
-      let most : (p - 1) * (m * p) ≤ 256 * k = mul-le (p - 1) (m * p) 256 k (omega arith) low in
+      let most : (p - 1) * (m * p) ≤ n * k = mul-le (p - 1) (m * p) n k (omega arith) low in
       omega arith
+    where
+      sum_low : a + c * b ≤ (p - 1) * p
+      sum_low =
+          let product : c * b ≤ (p - 1) * (p - 1) = mul-le c b (p - 1) (p - 1) (omega arith) (omega arith) in
+          let whole : (p - 1) * ((p - 1) + 1) ≡ (p - 1) * (p - 1) + (p - 1) * 1 = mul-add (p - 1) (p - 1) 1 in
+          let next : (p - 1) + 1 ≡ p = omega arith in
+          let same : (p - 1) * ((p - 1) + 1) ≡ (p - 1) * p = ap (λ n. (p - 1) * n) next in
+          omega arith

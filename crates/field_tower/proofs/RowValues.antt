@@ -26,27 +26,40 @@ module _ (k : Base) where
   pub read_zero : (u : List ℕ) (i : ℕ) → slice_index_or u i 0 ≡ coeff (ops_of k) u i
   read_zero u i = ap (slice_index_or u i) zero_is
 
-  read_below : (u : List ℕ) (i : ℕ) → are_elems (ops_of k) u ≡ true → slice_index_or u i 0 < k.p ^ suc (k.s - 1)
-  read_below u i e =
-      let same = degree_of k in
-      subst (λ n. slice_index_or u i 0 < k.p ^ n) (sym (degree_of k))
-      (subst (λ x. x < size_of k) (sym (read_zero u i)) (below_size k _ (elem_read (ops_of k) u (base_ring k).closed.zero_in e i)))
+  pub member_below : (u : List ℕ) (i : ℕ) → are_elems (ops_of k) u ≡ true → slice_index_or u i 0 < size_of k
+  member_below u i e =
+      subst (λ x. x < size_of k) (sym (read_zero u i)) (below_size k _ (elem_read (ops_of k) u (base_ring k).closed.zero_in e i))
 
-  pub binary_written : (i c : ℕ) (row before after : List ℕ) → k.p ≡ 2 → c ≡ 1 → are_elems (ops_of k) row ≡ true → are_elems (ops_of k) before ≡ true
-      → IsWritten 0 i (length row) (λ j. bit_xor (slice_index_or before (i + j) 0) (slice_index_or row j 0)) before after
-      → IsWritten (ops_of k).zero i (length row) (λ j. (ops_of k).add (coeff (ops_of k) before (i + j)) ((ops_of k).mul c (coeff (ops_of k) row j))) before after
-  binary_written i c row before after two one p e = retold 0 _ i (length row) _ _ before after zero_is (λ j l. sum j)
-    where
-      sum : (j : ℕ) → bit_xor (slice_index_or before (i + j) 0) (slice_index_or row j 0) ≡ (ops_of k).add (coeff (ops_of k) before (i + j)) ((ops_of k).mul c (coeff (ops_of k) row j))
-      sum j =
-          let a = slice_index_or before (i + j) 0 in
-          let b = slice_index_or row j 0 in
-          let r = ops_of k in
-          sym (add-xor (k.s - 1) a b k.modulus (subst (λ p. a < p ^ suc (k.s - 1)) two (read_below before (i + j) e)) (subst (λ p. b < p ^ suc (k.s - 1)) two (read_below row j p)))
-          ∙ ap (λ p. (base_ops p (k.s - 1) k.modulus).add a b) (sym two)
-          ∙ ap₂ r.add (read_zero before (i + j))
-          (read_zero row j ∙ sym ((base_ring k).one_mul _ (elem_read r row (base_ring k).closed.zero_in p j))
-          ∙ ap (λ x. r.mul x (coeff r row j)) (base-one k.p (k.s - 1) k.modulus ∙ sym one))
+  below_power : (a : ℕ) → k.p ≡ 2 → a < size_of k → a < 2 ^ suc (k.s - 1)
+  below_power a two l = subst (λ n. a < n) (ap₂ ◌^◌ two (sym (degree_of k))) l
+
+  module _ (two : k.p ≡ 2) (i c : ℕ) (row before after : List ℕ) (c_in : IsElem (ops_of k) c) (row_in : are_elems (ops_of k) row ≡ true) (before_in : are_elems (ops_of k) before ≡ true) where
+    member_in : (j : ℕ) → IsElem (ops_of k) (coeff (ops_of k) row j)
+    member_in = elem_read (ops_of k) row (base_ring k).closed.zero_in row_in
+
+    sum : (j x : ℕ) → x ≡ (ops_of k).mul c (coeff (ops_of k) row j)
+        → bit_xor (slice_index_or before (i + j) 0) x ≡ (ops_of k).add (coeff (ops_of k) before (i + j)) ((ops_of k).mul c (coeff (ops_of k) row j))
+    sum j x is =
+        let a = slice_index_or before (i + j) 0 in
+        let b = (ops_of k).mul c (coeff (ops_of k) row j) in
+        ap (bit_xor a) is
+        ∙ sym (add-xor (k.s - 1) a b k.modulus (below_power a two (member_below before (i + j) before_in))
+        (below_power b two (below_size k b ((base_ring k).closed.mul_in _ _ c_in (member_in j)))))
+        ∙ ap (λ p. (base_ops p (k.s - 1) k.modulus).add a b) (sym two)
+        ∙ ap (λ x. (ops_of k).add x b) (read_zero before (i + j))
+
+    pub logged_written : IsWritten 0 i (length row) (λ j. bit_xor (slice_index_or before (i + j) 0) ((ops_of k).mul c (slice_index_or row j 0))) before after
+        → IsWritten (ops_of k).zero i (length row) (λ j. (ops_of k).add (coeff (ops_of k) before (i + j)) ((ops_of k).mul c (coeff (ops_of k) row j))) before after
+    logged_written = retold 0 _ i (length row) _ _ before after zero_is (λ j l. sum j _ (ap ((ops_of k).mul c) (read_zero row j)))
+
+    pub binary_written : c ≡ 1 → IsWritten 0 i (length row) (λ j. bit_xor (slice_index_or before (i + j) 0) (slice_index_or row j 0)) before after
+        → IsWritten (ops_of k).zero i (length row) (λ j. (ops_of k).add (coeff (ops_of k) before (i + j)) ((ops_of k).mul c (coeff (ops_of k) row j))) before after
+    binary_written one = retold 0 _ i (length row) _ _ before after zero_is (λ j l. sum j _ (same j))
+      where
+        same : (j : ℕ) → slice_index_or row j 0 ≡ (ops_of k).mul c (coeff (ops_of k) row j)
+        same j =
+            read_zero row j ∙ sym ((base_ring k).one_mul _ (member_in j))
+            ∙ ap (λ x. (ops_of k).mul x (coeff (ops_of k) row j)) (base-one k.p (k.s - 1) k.modulus ∙ sym one)
 
   module _ (one : k.s ≡ 1) where
     least : k.s - 1 ≡ 0

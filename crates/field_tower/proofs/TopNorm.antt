@@ -1,5 +1,5 @@
 -- The norm of an element of a top field, and the inverse from it.
-use Rattle.std.proofs.Common.{◌≡◌, ℕ, zero, suc, ◌-◌, ◌<◌, Some, None, Option, MatchOption, slice_index_or, sym, refl, ap, subst, ◌∙◌, arith}
+use Rattle.std.proofs.Common.{◌≡◌, ℕ, zero, suc, ◌-◌, Some, None, MatchOption, slice_index_or, sym, ap, subst, ◌∙◌, arith}
 use Rattle.ring_core.specs.Ring.{IsElem}
 use Rattle.ring_core.specs.Coeffs.{coeff}
 use Rattle.residue_field.specs.declared.TopElem.{TopElem}

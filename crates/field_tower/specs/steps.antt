@@ -4,6 +4,7 @@ pub mod Constants
 pub mod Kernel
 pub mod Images
 pub mod Norm
+pub mod Bits
 pub mod Tables
 pub mod Logs
 pub mod Kinds

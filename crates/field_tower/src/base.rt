@@ -182,6 +182,13 @@ impl BaseField {
         )
     }
 
+    /// How the field multiplies.
+    pub(super) fn products(&self) -> &Products
+        ensures { let k = self.now in AreProducts k.p (k.s - 1) (size_of k) k.modulus result.now }
+    {
+        &self.products
+    }
+
     /// The product of two codes.
     fn product(&self, a: Code, b: Code) -> Code
         requires left { IsElem (ops_of self.now) a }

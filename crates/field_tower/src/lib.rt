@@ -6,15 +6,18 @@
 
 mod accept;
 mod base;
+mod bits;
 mod codes;
 mod fault;
 mod frobenius;
 mod lanes;
+mod letters;
 mod logs;
 mod modular;
 mod pair;
 mod places;
 mod prime;
+mod products;
 mod residues;
 mod row_sums;
 mod size;

@@ -9,7 +9,7 @@ use residue_field::Code;
 use ring_core::Field;
 
 /// The numbers below a listed prime `p`, with sums and products modulo `p`. The primes that are listed are
-/// 2, 3, 5, 7, 11, 13 and 251.
+/// 2, 3, 5, 7, 11, 13, 251 and 257.
 #[derive(Clone, Copy)]
 pub struct PrimeField {
     /// The prime.

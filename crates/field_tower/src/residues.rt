@@ -57,7 +57,13 @@ fn clear<F: Field>(field: &F, n: usize, out: &mut [F::Elem])
 }
 
 /// Makes the residue `out` into `c b` plus the letter times `out`, in place, going down from the top.
-fn step<F: Field>(field: &F, modulus: &[F::Elem], c: F::Elem, b: &[F::Elem], out: &mut [F::Elem])
+pub(crate) fn step<F: Field>(
+    field: &F,
+    modulus: &[F::Elem],
+    c: F::Elem,
+    b: &[F::Elem],
+    out: &mut [F::Elem],
+)
     requires degree { 2 ≤ length modulus.now }
     requires room { length modulus.now ≤ length out.old + 1 }
     requires modulus { are_elems (F.ops field.now) modulus.now ≡ true }

@@ -10,14 +10,16 @@ ghost use Rattle.finite_ring.specs.Finite.{HasNoPair};
 ghost use Rattle.field_tower.specs.steps.Places.{IsModulus};
 ghost use Rattle.field_tower.specs.Pairs.{IsPair};
 ghost use Rattle.field_tower.specs.steps.Images.{frob_image};
+ghost use Rattle.field_tower.specs.steps.Lanes.{letter_row};
 ghost use Rattle.field_tower.specs.steps.Norm.{conjugate_product};
 ghost use Rattle.minimal_poly.specs.MinPoly.{IsMinPoly};
 
 use super::accept::find_pair;
 use super::base::BaseField;
 use super::fault::TowerFault;
-use super::frobenius::{combination, images};
-use super::places;
+use super::frobenius::images;
+use super::letters::letter_rows;
+use super::{places, products};
 use fq_poly::Poly;
 use minimal_poly::min_poly;
 use residue_field::{Code, TopElem, WIDTH};
@@ -33,8 +35,10 @@ pub struct Tower {
     n: u32,
     modulus: Vec<Code>,
     images: Vec<TopElem>,
+    letters: Vec<TopElem>,
     ghost is_top: { IsTop base n modulus.items },
     ghost images_are: { images.items ≡ first_values (n * n) (frob_image base n modulus.items) },
+    ghost letters_are: { letters.items ≡ first_values (length modulus.items - 1) (letter_row (ops_of base) modulus.items) },
 }
 
 impl Model for Tower {
@@ -74,6 +78,7 @@ fn top_pair(
 struct TopParts {
     modulus: Vec<Code>,
     images: Vec<TopElem>,
+    letters: Vec<TopElem>,
 }
 
 impl Tower {
@@ -97,11 +102,18 @@ impl Tower {
         ensures { MakesTop base n modulus.now result }
     {
         match Tower::parts(alloc, &base, n, modulus) {
-            Ok(TopParts { modulus, images }) => Ok(Tower {
+            Ok(
+                TopParts {
+                    modulus,
+                    images,
+                    letters,
+                },
+            ) => Ok(Tower {
                 base,
                 n,
                 modulus,
                 images,
+                letters,
             }),
             Err(why) => Err(TowerRefused { base, why }),
         }
@@ -115,7 +127,7 @@ impl Tower {
         modulus: &[Code],
     ) -> Result<TopParts, TowerFault>
         requires members { are_elems (ops_of base.now) modulus.now ≡ true }
-        ensures { MatchResult result (λ parts. ArePartsOf base.now n modulus.now parts.modulus.items parts.images.items) (IsTopFault base.now n modulus.now) }
+        ensures { MatchResult result (λ parts. ArePartsOf base.now n modulus.now parts.modulus.items parts.images.items parts.letters.items) (IsTopFault base.now n modulus.now) }
     {
         let degree = n as usize;
         if degree == 0 || degree > WIDTH {
@@ -132,10 +144,17 @@ impl Tower {
         let Ok(images) = images(alloc, base, degree, modulus) else {
             return Err(TowerFault::NoMemory);
         };
+        let Ok(letters) = letter_rows(alloc, base, modulus) else {
+            return Err(TowerFault::NoMemory);
+        };
         let Ok(modulus) = Vec::from_slice(alloc, modulus) else {
             return Err(TowerFault::NoMemory);
         };
-        Ok(TopParts { modulus, images })
+        Ok(TopParts {
+            modulus,
+            images,
+            letters,
+        })
     }
 
     /// The monic polynomial of least degree over the base that has the root `c`, lowest coefficient first.
@@ -200,7 +219,7 @@ impl Field for Tower {
     }
 
     fn mul(&self, a: TopElem, b: TopElem) -> TopElem {
-        places::mul(&self.base, &self.modulus, a, b)
+        products::mul(&self.base, &self.modulus, &self.letters, a, b)
     }
 
     fn inv(&self, a: TopElem) -> Option<TopElem> {
@@ -240,7 +259,7 @@ impl FrobField for Tower {
 
     fn frob(&self, c: TopElem, i: usize) -> TopElem {
         let n = self.n as usize;
-        combination(&self.base, n, &self.images, i % n * n, c)
+        products::combination(&self.base, n, &self.images, i % n * n, c)
     }
 
     fn coord(&self, c: TopElem, j: usize) -> Code {

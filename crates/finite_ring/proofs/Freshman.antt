@@ -45,6 +45,9 @@ fresh_13 = refl
 pub fresh_251 : HasFreshRow 251
 fresh_251 = refl
 
+pub fresh_257 : HasFreshRow 257
+fresh_257 = refl
+
 -- The sum of `n` ones.
 abbrev pub ones : {M : Type 0} → RingOn M → ℕ → M
 ones R zero = R.zero

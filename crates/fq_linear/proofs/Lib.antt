@@ -1,6 +1,7 @@
 pub mod Places
 pub mod Tables
 pub mod Slots
+pub mod Extents
 pub mod Joined
 pub mod Steps
 pub mod Gathered

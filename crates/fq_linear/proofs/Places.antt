@@ -1,17 +1,16 @@
 -- Lists of elements, and writes to them place by place.
-use Rattle.std.proofs.Common.{◌≡◌, ℕ, zero, suc, ◌+◌, ◌-◌, ◌<◌, ◌≤◌, inl, inr, Bool, true, List, [], ◌∷◌, ◌++◌, length, get_or, take, drop, replicate, refl, sym, ◌∙◌, ap, ap₂, subst, arith, get_or-take, get_or-drop, slice_range, nat_lt, ltb-true, ltb-false, MatchOption, Option, Some, zero-add}
+use Rattle.std.proofs.Common.{◌≡◌, ℕ, zero, suc, ◌+◌, ◌-◌, ◌<◌, ◌≤◌, ◌⊎◌, inl, inr, Bool, true, List, [], ◌∷◌, ◌++◌, get_or, take, drop, replicate, refl, sym, ◌∙◌, ap, subst, arith, get_or-take, get_or-drop, slice_range, nat_lt, ltb-true, ltb-false, MatchOption, Option, Some, zero-add}
 use Rattle.std.proofs.lemmas.Bool.{cases_lt}
 use Rattle.std.proofs.lemmas.List.{replicate-append-replicate}
 use Rattle.ring_core.specs.Ring.{RingOps, IsElem, IsRing}
 use Rattle.ring_core.specs.Coeffs.{coeff, are_elems}
 use Rattle.ring_core.specs.Written.{IsWritten}
 use Rattle.ring_core.proofs.Coefficients.{elem_read, elems_take}
-use Rattle.ring_core.proofs.Carrier.{elements, mul_zero}
+use Rattle.ring_core.proofs.Carrier.{elements, mul_zero, add_times_zero}
 use Rattle.ring_core.proofs.PowerLaws.{elems_drop}
-use Rattle.ring_core.proofs.RowSteps.{row_written}
 use Rattle.linear_algebra.proofs.Sums.{by_bool}
 use Rattle.ring_core.specs.Field.{IsField}
-use Rattle.fq_linear.specs.steps.Places.{IsHighestPlace, IsMonicMultiple, cleared}
+use Rattle.fq_linear.specs.steps.Places.{IsHighestPlace, IsMonicMultiple}
 
 pub replicate_more : {T : Type 0} (n : ℕ) (x : T) → replicate n x ++ x ∷ [] ≡ replicate (n + 1) x
 replicate_more n x = replicate-append-replicate n 1 x
@@ -33,20 +32,25 @@ module _ {E : Type 0} (r : RingOps E) (h : IsRing r) where
   pub elems_range : (u : List E) (a b : ℕ) → are_elems r u ≡ true → are_elems r (slice_range u a b) ≡ true
   elems_range u a b e = elems_take r (b - a) (drop a u) (elems_drop r h a u e)
 
-  -- clearing by the first places of a row with zeros after them
-  pub cleared_by_first : (at l : ℕ) (m : E) (row before u : List E) → are_elems r before ≡ true
-      → ((k : ℕ) → l < k → coeff r row k ≡ r.zero) → m ≡ r.neg (coeff r before (at + l)) → ((k : ℕ) → k < at → coeff r u k ≡ coeff r before k)
-      → ((k : ℕ) → coeff r u (at + k) ≡ r.add (coeff r before (at + k)) (r.mul m (coeff r (take (l + 1) row) k)))
-      → IsWritten r.zero at (length row) (cleared r l (coeff r row) (λ k. coeff r before (at + k))) before u
-  cleared_by_first at l m row before u bi above em below added =
-      row_written r h at (r.neg (coeff r before (at + l))) row before u (h.closed.neg_in _ (elem_read r before h.closed.zero_in bi (at + l))) bi below
-      (λ k. added k ∙ ap₂ (λ x y. r.add (coeff r before (at + k)) (r.mul x y)) em (first k))
-    where
-      first : (k : ℕ) → coeff r (take (l + 1) row) k ≡ coeff r row k
-      first k = elim (cases_lt k (l + 1)) [
-        | inl low ↦ get_or-take (l + 1) row k r.zero low
-        | inr high ↦ take_past (l + 1) row k r.zero high ∙ sym (above k (omega arith))
-      ]
+  -- adding a range of a row, told at every place
+  module _ (a b : ℕ) (c : E) (row before u : List E) (bi : are_elems r before ≡ true) (ci : IsElem r c) (below : (k : ℕ) → k < a → coeff r u k ≡ coeff r before k)
+      (added : (k : ℕ) → coeff r u (a + k) ≡ r.add (coeff r before (a + k)) (r.mul c (coeff r (slice_range row a b) k))) where
+    pub range_inside : (k : ℕ) → a ≤ k → k < b → coeff r u k ≡ r.add (coeff r before k) (r.mul c (coeff r row k))
+    range_inside k l m =
+        let same : a + (k - a) ≡ k = omega (arith, l) in
+        ap (coeff r u) (sym same) ∙ added (k - a) ∙ ap (λ x. r.add (coeff r before (a + (k - a))) (r.mul c x)) (range_place row a b (k - a) r.zero (omega (arith, l, m)))
+        ∙ ap (λ i. r.add (coeff r before i) (r.mul c (coeff r row i))) same
+
+    pub range_outside : (k : ℕ) → (k < a) ⊎ (b ≤ k) → coeff r u k ≡ coeff r before k
+    range_outside k (inl l) = below k l
+    range_outside k (inr l) = elim (cases_lt k a) [
+      | inl low ↦ below k low
+      | inr high ↦
+          let same : a + (k - a) ≡ k = omega (arith, high) in
+          ap (coeff r u) (sym same) ∙ added (k - a)
+          ∙ add_times_zero r h _ c _ (elem_read r before h.closed.zero_in bi (a + (k - a))) ci (range_past row a b (k - a) r.zero (omega (arith, l)))
+          ∙ ap (coeff r before) same
+    ]
 
   -- what a comparison tells
   pub same_tells : (a b : E) (t : Bool) → IsElem r a → IsElem r b → t ≡ r.same a b → t ≡ true → a ≡ b

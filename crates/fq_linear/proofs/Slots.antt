@@ -1,6 +1,6 @@
 -- The rows of a table by their leads, and writes to a table.
 use Rattle.linear_algebra.specs.steps.Slots.{beside}
-use Rattle.std.proofs.Common.{◌≡◌, ℕ, ◌+◌, ◌-◌, ◌*◌, ◌<◌, ◌≤◌, inl, inr, true, cond, Option, Some, None, nat_eq, List, length, set, refl, sym, ◌∙◌, ap, ap₂, subst, arith, MatchOption, nat_lt, ltb-true, ltb-false, zero-add, get_or-set_same, get_or-set_other}
+use Rattle.std.proofs.Common.{◌≡◌, ℕ, ◌+◌, ◌-◌, ◌*◌, ◌<◌, ◌≤◌, inl, inr, true, cond, Option, Some, None, nat_eq, List, length, set, refl, sym, ◌∙◌, ap, subst, arith, MatchOption, nat_lt, ltb-true, ltb-false, zero-add, get_or-set_same, get_or-set_other}
 use Rattle.std.proofs.lemmas.Bool.{cond_both}
 use Rattle.ring_core.proofs.Carrier.{elements, add_times_zero, neg_zero, zero_mul, add_zero}
 use Rattle.ring_core.specs.Ring.{RingOps, IsElem, IsRing}
@@ -27,21 +27,7 @@ module _ {E : Type 0} (r : RingOps E) (h : IsRing r) where
   pub slot_in : (w : ℕ) (index : List (Option ℕ)) (cells : List E) → are_elems r cells ≡ true → AllIn r (slot r w index cells)
   slot_in w index cells e j k = numbered_in w cells e (row_number index j) k
 
-  -- a row cleared by one of the table, told at every place
-  pub cleared_some : (w j n i : ℕ) (o : Option ℕ) (cells row new : List E) → o ≡ Some i → n ≡ w → length row ≡ w → are_elems r cells ≡ true → are_elems r row ≡ true
-      → IsWritten r.zero 0 n (cleared r j (coeff r (row_cells w cells i)) (λ k. coeff r row (0 + k))) row new
-      → (k : ℕ) → coeff r new k ≡ cleared r j (coeff r (numbered_cells w w cells o)) (coeff r row) k
-  cleared_some w j n i o cells row new eo en el ce re s k =
-      subst (λ o. coeff r new k ≡ cleared r j (coeff r (numbered_cells w w cells o)) (coeff r row) k) (sym eo)
-      (by_bool (nat_lt k n)
-      (λ t. ap (coeff r new) (sym (zero-add k)) ∙ s.inside k (ltb-true k n t)
-      ∙ ap₂ (λ a b. r.add (coeff r row a) (r.mul (r.neg (coeff r row b)) (coeff r (row_cells w cells i) k))) (zero-add k) (zero-add j))
-      (λ t.
-      let far : n ≤ k = ltb-false k n t in
-      s.outside k (inr (omega arith))
-      ∙ sym (add_times_zero r h (coeff r row k) _ _ (elem_read r row h.closed.zero_in re k)
-      (h.closed.neg_in _ (elem_read r row h.closed.zero_in re j)) (numbered_past r w cells (Some i) k (omega arith)))))
-
+  -- a row that no row of the table clears, told like one that is cleared
   pub cleared_none : (w j : ℕ) (o : Option ℕ) (cells row : List E) → o ≡ None → are_elems r row ≡ true
       → (k : ℕ) → coeff r row k ≡ cleared r j (coeff r (numbered_cells w w cells o)) (coeff r row) k
   cleared_none w j o cells row eo re k =

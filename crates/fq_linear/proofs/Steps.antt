@@ -53,7 +53,7 @@ module _ {E : Type 0} (r : RingOps E) (h : IsRing r) where
     ]
 
   -- an empty table
-  empty_slot : (w : ℕ) (index : List (Option ℕ)) (cells : List E) → ((j : ℕ) → row_number index j ≡ None) → (j k : ℕ) → slot r w index cells j k ≡ r.zero
+  pub empty_slot : (w : ℕ) (index : List (Option ℕ)) (cells : List E) → ((j : ℕ) → row_number index j ≡ None) → (j k : ℕ) → slot r w index cells j k ≡ r.zero
   empty_slot w index cells e j k = ap (λ o. coeff r (numbered_cells w w cells o) k) (e j)
 
   empty_lead : (index : List (Option ℕ)) (j : ℕ) → row_number index j ≡ None → is_lead index j ≡ true → ⊥

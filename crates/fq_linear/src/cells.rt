@@ -1,11 +1,13 @@
 //! Rows of field elements in slices.
 
-ghost use Rattle.std.specs.Prelude.{◌≡◌, ◌+◌, ◌<◌, ◌≤◌, ℕ, true, length, replicate, IfOk, slice_index_or};
+ghost use Rattle.std.specs.Prelude.{◌≡◌, ◌+◌, ◌<◌, ◌≤◌, ◌⊎◌, ℕ, true, length, replicate, IfOk, slice_index_or};
 ghost use Rattle.ring_core.specs.Ring.{IsElem};
 ghost use Rattle.ring_core.specs.Coeffs.{coeff, are_elems};
 ghost use Rattle.ring_core.specs.Written.{IsWritten};
+ghost use Rattle.fq_linear.specs.steps.Extents.{HasExtent};
 ghost use Rattle.fq_linear.specs.steps.Places.{IsHighestPlace, IsMonicMultiple, cleared, unit_row};
 
+use super::extent::{Extent, greater, lesser};
 use ring_core::lists::coeff_at;
 use ring_core::rows::add_scaled;
 use ring_core::{E, Field, NoMemory};
@@ -22,20 +24,54 @@ pub(super) fn filled<T: Copy>(alloc: Global, n: usize, value: T) -> Result<Vec<T
     Ok(list)
 }
 
-/// Clears place `at + l` of the cells by `row`, which has one at `l` and zero above. Only the places from
-/// `at` to `at + l` are touched, and none where the place is zero already.
-pub(super) fn clear_at<F: Field>(f: &F, cells: &mut [E<F>], at: usize, l: usize, row: &[E<F>])
-    requires cells { are_elems (F.ops f.now) cells.old ≡ true }
+/// Adds `c` times the places of `row` from `a` to `b`, without `b`, to those of `out`.
+fn add_range<F: Field>(f: &F, a: usize, b: usize, c: E<F>, row: &[E<F>], out: &mut [E<F>])
+    requires out { are_elems (F.ops f.now) out.old ≡ true }
+    requires factor { IsElem (F.ops f.now) c }
+    requires row { are_elems (F.ops f.now) row.now ≡ true }
+    requires within { b ≤ length row.now }
+    requires room { b ≤ length out.old }
+    ensures len { length out.new ≡ length out.old }
+    ensures elems { are_elems (F.ops f.now) out.new ≡ true }
+    ensures inside { (k : ℕ) → a ≤ k → k < b → let r = F.ops f.now in coeff r out.new k ≡ r.add (coeff r out.old k) (r.mul c (coeff r row.now k)) }
+    ensures outside { (k : ℕ) → (k < a) ⊎ (b ≤ k) → coeff (F.ops f.now) out.new k ≡ coeff (F.ops f.now) out.old k }
+{
+    if a < b {
+        add_scaled(f, out, a, c, &row[a..b]);
+    }
+}
+
+/// Clears place `l` by `row`, which has one at `l` and zero above. Only the places of the extent are touched.
+pub(super) fn clear_by<F: Field>(f: &F, l: usize, extent: Extent, row: &[E<F>], out: &mut [E<F>])
+    requires out { are_elems (F.ops f.now) out.old ≡ true }
     requires row { are_elems (F.ops f.now) row.now ≡ true }
     requires place { l < length row.now }
     requires above { (k : ℕ) → l < k → coeff (F.ops f.now) row.now k ≡ (F.ops f.now).zero }
-    requires within { at + length row.now ≤ length cells.old }
-    ensures len { length cells.new ≡ length cells.old }
-    ensures elems { are_elems (F.ops f.now) cells.new ≡ true }
-    ensures written { let r = F.ops f.now in IsWritten r.zero at (length row.now) (cleared r l (coeff r row.now) (λ k. coeff r cells.old (at + k))) cells.old cells.new }
+    requires extent { HasExtent (F.ops f.now) extent (coeff (F.ops f.now) row.now) }
+    requires room { length row.now ≤ length out.old }
+    ensures len { length out.new ≡ length out.old }
+    ensures elems { are_elems (F.ops f.now) out.new ≡ true }
+    ensures cleared { (k : ℕ) → let r = F.ops f.now in coeff r out.new k ≡ cleared r l (coeff r row.now) (coeff r out.old) k }
 {
-    let c = coeff_at(f, cells, at + l);
-    add_scaled(f, cells, at, f.neg(c), &row[..l + 1]);
+    let c = f.neg(coeff_at(f, out, l));
+    let end = lesser(extent.end, l + 1);
+    let high = greater(extent.high, end);
+    add_range(f, extent.low, end, c, row, out);
+    add_range(f, high, l + 1, c, row, out);
+}
+
+/// The first place from `from` on that is not zero, or the number of places.
+pub(super) fn first_place<F: Field>(f: &F, from: usize, row: &[E<F>]) -> usize
+    requires row { are_elems (F.ops f.now) row.now ≡ true }
+    requires from { from ≤ length row.now }
+    ensures { (k : ℕ) → from ≤ k → k < result → coeff (F.ops f.now) row.now k ≡ (F.ops f.now).zero }
+{
+    for k in from..row.len() {
+        if !f.equal(coeff_at(f, row, k), f.zero()) {
+            return k;
+        }
+    }
+    row.len()
 }
 
 /// Multiplies the first `n` places by `c`.

@@ -3,6 +3,7 @@
 
 mod cells;
 mod eliminate;
+mod extent;
 mod gather;
 pub mod laws;
 mod rows;

@@ -3,7 +3,7 @@
 use native.Mathlib.Nat.{mod-add-mod, mod_self, zero-mod, pow-zero}
 use Rattle.std.proofs.Common.{◌≡◌, ◌≢◌, ℕ, zero, suc, ◌+◌, ◌*◌, ◌%◌, ◌^◌, ◌<◌, true, sym, ap, ◌∙◌, arith, add-one, one-mul, pow-suc}
 use Rattle.ring_core.proofs.Carrier.{elements, same_element}
-use Rattle.finite_ring.proofs.Freshman.{HasFreshRow, ones, fresh_2, fresh_3, fresh_5, fresh_7, fresh_11, fresh_13, fresh_251}
+use Rattle.finite_ring.proofs.Freshman.{HasFreshRow, ones, fresh_2, fresh_3, fresh_5, fresh_7, fresh_11, fresh_13, fresh_251, fresh_257}
 use Rattle.finite_ring.proofs.Frobenius.{IsFiniteField}
 use Rattle.finite_ring.proofs.Embedding.{field_of}
 use Rattle.residue_field.specs.Prime.{is_listed, prime_ops}
@@ -19,7 +19,7 @@ prime_char : (p : ℕ) (large : 1 < p) → ones (elements (prime_ring p large)) 
 prime_char p large = same_element (prime_ops p) _ _ (ones_are p large p ∙ mod_self p)
 
 fresh_row : (p : ℕ) → is_listed p ≡ true → HasFreshRow p
-fresh_row p e = listed_cases HasFreshRow fresh_2 fresh_3 fresh_5 fresh_7 fresh_11 fresh_13 fresh_251 p e
+fresh_row p e = listed_cases HasFreshRow fresh_2 fresh_3 fresh_5 fresh_7 fresh_11 fresh_13 fresh_251 fresh_257 p e
 
 pub prime_finite : (p : ℕ) (e : is_listed p ≡ true) → IsFiniteField (elements (prime_ring p (listed_large p e))) p
 prime_finite p e =

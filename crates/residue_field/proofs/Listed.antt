@@ -26,10 +26,10 @@ inverse_at p (suc k) e a positive low =
     ]
 
 -- what holds of each listed number
-pub listed_cases : (P : ℕ → Type 0) → P 2 → P 3 → P 5 → P 7 → P 11 → P 13 → P 251 → (p : ℕ) → is_listed p ≡ true → P p
-listed_cases P at_2 at_3 at_5 at_7 at_11 at_13 at_251 p e =
-    last 251 at_251 _ e (λ e. last 13 at_13 _ e (λ e. last 11 at_11 _ e (λ e. last 7 at_7 _ e (λ e. last 5 at_5 _ e (λ e. last 3 at_3 _ e
-    (λ e. subst P (sym (eqb-true p 2 e)) at_2))))))
+pub listed_cases : (P : ℕ → Type 0) → P 2 → P 3 → P 5 → P 7 → P 11 → P 13 → P 251 → P 257 → (p : ℕ) → is_listed p ≡ true → P p
+listed_cases P at_2 at_3 at_5 at_7 at_11 at_13 at_251 at_257 p e =
+    last 257 at_257 _ e (λ e. last 251 at_251 _ e (λ e. last 13 at_13 _ e (λ e. last 11 at_11 _ e (λ e. last 7 at_7 _ e (λ e. last 5 at_5 _ e (λ e. last 3 at_3 _ e
+    (λ e. subst P (sym (eqb-true p 2 e)) at_2)))))))
   where
     last : (n : ℕ) → P n → (before : Bool) → (before || nat_eq p n) ≡ true → (before ≡ true → P p) → P p
     last n at before e rest =
@@ -38,7 +38,7 @@ listed_cases P at_2 at_3 at_5 at_7 at_11 at_13 at_251 p e =
 tested : (p : ℕ) → is_listed p ≡ true → IsTested p
 tested p e =
     listed_cases IsTested (omega arith, refl) (omega arith, refl) (omega arith, refl) (omega arith, refl) (omega arith, refl)
-    (omega arith, refl) (omega arith, refl) p e
+    (omega arith, refl) (omega arith, refl) (omega arith, refl) p e
 
 pub listed_large : (p : ℕ) → is_listed p ≡ true → 1 < p
 listed_large p e = (tested p e).0

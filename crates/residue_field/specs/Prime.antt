@@ -4,7 +4,7 @@ use Rattle.ring_core.specs.Ring.{RingOps}
 
 -- The primes that a base field may stand on.
 abbrev pub is_listed : ℕ → Bool
-is_listed p = nat_eq p 2 || nat_eq p 3 || nat_eq p 5 || nat_eq p 7 || nat_eq p 11 || nat_eq p 13 || nat_eq p 251
+is_listed p = nat_eq p 2 || nat_eq p 3 || nat_eq p 5 || nat_eq p 7 || nat_eq p 11 || nat_eq p 13 || nat_eq p 251 || nat_eq p 257
 
 -- The numbers below `p` with the sum and the product modulo `p`.
 abbrev pub prime_ops : ℕ → RingOps ℕ

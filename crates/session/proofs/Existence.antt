@@ -15,7 +15,6 @@ use Rattle.script_statement.specs.declared.Form.{Form}
 use Rattle.script_statement.specs.declared.Form.TheVariants as form
 use Rattle.script_parse.specs.Version.{version_1}
 use Rattle.script_parse.specs.Within.{IsWithin}
-use Rattle.script_parse.proofs.VersionFit.{listed_primes}
 use Rattle.answer.specs.declared.Answer.{Answer}
 use Rattle.answer.specs.declared.Answer.TheVariants as answer
 use Rattle.answer.specs.declared.FieldState.{FieldState}
@@ -42,6 +41,7 @@ use Rattle.session.proofs.Decided.{pair_or_none}
 use Rattle.session.proofs.Granted.{granted}
 use Rattle.session.proofs.Monic.{told_monic}
 use Rattle.session.proofs.Operands.{work_free, form_operands}
+use Rattle.session.proofs.Primes.{listed_prime}
 use Rattle.session.proofs.Stepping.{needs_top}
 
 passed_test : (b : Bool) (x : Stop) → when (not b) x ≡ None → b ≡ true
@@ -81,7 +81,7 @@ top_outcome k n m positive fits free =
     let monic = told_monic (ops_of k) (base_ring k) n (top_modulus k m) (passed_test _ _ free) in
     let degree : suc (n - 1) ≡ n = omega (arith, positive) in
     let shape : IsTopShape k (n - 1) (top_modulus k m) = record {
-      fits = subst (λ d. d ≤ 12) (sym degree) fits;
+      fits = omega (arith, degree, fits);
       elems = monic.0;
       count = monic.1 ∙ ap (λ d. d + 1) (sym degree);
       top = ap (coeff (ops_of k) (top_modulus k m)) degree ∙ monic.2;
@@ -94,7 +94,7 @@ top_outcome k n m positive fits free =
             base = k;
             n = n;
             modulus = top_modulus k m;
-            is_top = record { positive = positive; fits = fits; elems = monic.0; count = monic.1; top = monic.2; no_pair = none };
+            is_top = record { positive = positive; fits = omega (arith, fits); elems = monic.0; count = monic.1; top = monic.2; no_pair = none };
           } in
           inr (answer.N n, (field.Top t, (t, refl, refl, refl, refl, refl)))
     ]
@@ -106,7 +106,7 @@ Rest k ns f = ((c : Stop) × IsReducible k f c) ⊎ ((a : Answer) × ((next : St
 nothing_rest : (ns : List (List ℕ × Value)) (f : Form) → IsWithin version_1 f → field_refusal (demands f).field field.Nothing ≡ None
     → modulus_refusal field.Nothing f ≡ None → Rest field.Nothing ns f
 nothing_rest ns (form.Base p s m) within asked free =
-    elim (base_outcome p s m (sym (listed_primes p) ∙ within.0) within.1 free) [
+    elim (base_outcome p s m (listed_prime p within.0) within.1 free) [
       | inl pair ↦ inl (stop.Meaning meaning.BaseReducible, (refl, pair))
       | inr sets ↦ inr (sets.0, (record { field = sets.1.0; names = ns }, (sets.1.0, sets.1.1, refl)))
     ]

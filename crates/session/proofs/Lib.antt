@@ -6,4 +6,5 @@ pub mod Monic
 pub mod Named
 pub mod Operands
 pub mod Outcomes
+pub mod Primes
 pub mod Stepping

@@ -72,8 +72,16 @@ fn check_pair<N: Numbers>(
     let left = member(field, a)?;
     let right = member(field, b)?;
     assert!(rt; field.is_elem(left) && field.is_elem(right));
-    assert_eq!(rt; field.add(left, right) as Number, plain.add(a, b), "{a} + {b}");
-    assert_eq!(rt; field.mul(left, right) as Number, plain.mul(a, b), "{a} {b}");
+    assert_eq!(rt;
+        field.add(left, right) as Number,
+        plain.add(a, b),
+        "{a} + {b}"
+    );
+    assert_eq!(rt;
+        field.mul(left, right) as Number,
+        plain.mul(a, b),
+        "{a} {b}"
+    );
     Ok(())
 }
 

@@ -5,7 +5,7 @@ use Rattle.answer_print.proofs.elements.digits.Given as goal
 
 abbrev pub invariant-loop : goal.invariant-loop
 invariant-loop l = record {
-  small : l.rest < 256;
+  small : l.rest < 65536;
   value : l.digits.items ≡ first_values l.counter (digit l.p l.c);
   rest : (i : ℕ) → digit l.p l.rest i ≡ digit l.p l.c (l.counter + i);
 }

@@ -1,4 +1,4 @@
-use Rattle.std.proofs.Common.{◌<◌, ◌≤◌, ◌+◌, ◌-◌, ◌*◌, ◌/◌, ◌∙◌, arith}
+use Rattle.std.proofs.Common.{◌∙◌, arith}
 use Rattle.field_tower.proofs.Reciprocal.{quotient_low, quotient_high, remainder_same}
 use Rattle.field_tower.proofs.base.remainder.Goals as goal
 
@@ -7,14 +7,10 @@ overflow_sub-x c = quotient_low 4294967296 c.args.p c.args.x c.args.reciprocal (
 
 pub less_once-requires : goal.less_once-requires
 less_once-requires c =
-    let p = c.args.p in
-    let x = c.args.x in
-    let fits : x ≤ 1 * 4294967296 = omega arith in
-    let low = quotient_low 4294967296 p x c.args.reciprocal (omega arith) c.requires.reciprocal (omega arith) in
-    let high = quotient_high 4294967296 p x c.args.reciprocal (omega arith) c.requires.reciprocal (omega arith) 1 fits in
+    let low = quotient_low 4294967296 c.args.p c.args.x c.args.reciprocal (omega arith) c.requires.reciprocal (omega arith) in
+    let high = quotient_high 4294967296 c.args.p c.args.x c.args.reciprocal (omega arith) c.requires.reciprocal (omega arith) 1 (omega arith) in
     omega arith
 
 pub returns : goal.returns
 returns c =
-    c.less_once.ensures
-    ∙ remainder_same 4294967296 c.args.p c.args.x c.args.reciprocal (omega arith) c.requires.reciprocal (omega arith)
+    c.less_once.ensures ∙ remainder_same 4294967296 c.args.p c.args.x c.args.reciprocal (omega arith) c.requires.reciprocal (omega arith)

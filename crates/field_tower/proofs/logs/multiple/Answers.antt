@@ -1,6 +1,5 @@
-use Rattle.std.proofs.Common.{◌≡◌, ◌-◌, ◌<◌, ◌^◌, suc, length, sym, ap, ap₂, subst, ◌∙◌, arith}
+use Rattle.std.proofs.Common.{◌≡◌, ◌-◌, ◌<◌, ◌^◌, suc, length, sym, ap, subst, ◌∙◌, arith}
 use Rattle.ring_core.proofs.FirstValues.{length-first_values}
-use Rattle.residue_field.specs.Base.{base_ops}
 use Rattle.field_tower.proofs.CodeForms.{shape_from_modulus}
 use Rattle.field_tower.proofs.LogSteps.{row_below, row_sum}
 use Rattle.field_tower.proofs.logs.multiple.Goals as goal

@@ -1,7 +1,6 @@
-use Rattle.std.proofs.Common.{◌≡◌, ◌≤◌, ◌<◌, ◌-◌, ◌*◌, ◌^◌, suc, length, sym, ap, subst, ◌∙◌, arith}
+use Rattle.std.proofs.Common.{◌≡◌, ◌-◌, ◌*◌, ◌^◌, suc, length, sym, ap, subst, ◌∙◌, arith}
 use Rattle.ring_core.specs.Coeffs.{first_values}
 use Rattle.ring_core.proofs.FirstValues.{length-first_values}
-use Rattle.residue_field.specs.Base.{base_ops}
 use Rattle.field_tower.specs.steps.Logs.{steps_below, AreSteps, AreLogs}
 use Rattle.field_tower.proofs.CodeForms.{shape_from_modulus, modulus_large}
 use Rattle.field_tower.proofs.LogSteps.{row_steps, log_table}

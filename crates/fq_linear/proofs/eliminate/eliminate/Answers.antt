@@ -19,7 +19,7 @@ pub insert_all-requires-clause-cells : goal.insert_all-requires-clause-cells
 insert_all-requires-clause-cells g c = ap (are_elems (g.F.Field.ops c.args.f.now)) c.deref_mut-2.ensures.value ∙ c.in_ok-cells.ensures.elems
 
 pub insert_all-requires-clause-row : goal.insert_all-requires-clause-row
-insert_all-requires-clause-row g c = ap (are_elems (g.F.Field.ops c.args.f.now)) c.deref_mut-3.ensures.value ∙ c.in_ok-row.ensures.elems
+insert_all-requires-clause-row g c = ap (are_elems (g.F.Field.ops c.args.f.now)) c.deref_mut-4.ensures.value ∙ c.in_ok-row.ensures.elems
 
 pub insert_all-requires-clause-cells_len : goal.insert_all-requires-clause-cells_len
 insert_all-requires-clause-cells_len g c =
@@ -28,7 +28,7 @@ insert_all-requires-clause-cells_len g c =
 
 pub insert_all-requires-clause-row_len : goal.insert_all-requires-clause-row_len
 insert_all-requires-clause-row_len g c =
-    ap length (c.deref_mut-3.ensures.value ∙ c.in_ok-row.ensures.value) ∙ length-first_values c.in-Some.w _ ∙ c.in-Some.ensures.1
+    ap length (c.deref_mut-4.ensures.value ∙ c.in_ok-row.ensures.value) ∙ length-first_values c.in-Some.w _ ∙ c.in-Some.ensures.1
     ∙ ap (λ k. c.args.offset + k) (c.width.ensures ∙ sym c.width-2.ensures)
 
 pub returns : goal.returns

@@ -1,9 +1,10 @@
-use Rattle.std.proofs.Common.{length, ◌∙◌, subst, arith}
+use Rattle.std.proofs.Common.{◌≡◌, ◌≢◌, ℕ, length, ◌∙◌, subst, arith}
 use Rattle.ring_core.specs.Coeffs.{coeff}
 use Rattle.ring_core.proofs.Coefficients.{elem_read}
 use Rattle.fq_linear.specs.steps.Elimination.{slot, IsInserted}
 use Rattle.ring_core.proofs.Terms.{times_zero}
 use Rattle.fq_linear.proofs.Slots.{when_none, slot_in}
+use Rattle.fq_linear.proofs.Extents.{extents_joined, extent_scaled}
 use Rattle.fq_linear.proofs.Joined.{inserted_from, inserted_nothing}
 use Rattle.fq_linear.proofs.eliminate.insert_row.Goals as goal
 
@@ -51,3 +52,21 @@ returns-clause-inserted g c =
     (coeff r c.make_monic.new.row) (elem_read r c.make_monic.new.row z c.make_monic.ensures.elems)
     monic.factor (coeff r c.reduce_top.new.row c.in-Some.l) monic.elem (zi c.in-Some.l) monic.is monic.back
     (subst (λ w. IsInserted r w (slot r w index cells) (slot r w c.keep_row.new.index c.keep_row.new.cells) (coeff r c.make_monic.new.row)) same c.keep_row.ensures.inserted)
+
+pub returns-clause-extents : goal.returns-clause-extents
+returns-clause-extents g c =
+    let r = g.F.Field.ops c.args.f.now in
+    let ring = (g.met.F.Field.laws c.args.f.now).ring in
+    let w = length c.args.row.now in
+    let monic = c.make_monic.ensures.monic in
+    let same = c.make_monic.ensures.len ∙ c.reduce_top.ensures.len in
+    let index = c.args.index.now in
+    let cells = c.args.cells.now in
+    let mark = c.keep_row.new.index in
+    let after = c.keep_row.new.cells in
+    let top = c.in-Some.ensures.top in
+    extents_joined r w c.in-Some.l index mark cells after c.args.extents.now c.reduce_top.new.extent (coeff r c.make_monic.new.row)
+    (omega (arith, top.top.within, c.reduce_top.ensures.len, c.requires.extents.len)) c.requires.extents
+    (extent_scaled r ring c.reduce_top.new.extent monic.factor (coeff r c.reduce_top.new.row) (coeff r c.make_monic.new.row) monic.elem monic.is c.reduce_top.ensures.extent)
+    (subst (λ w. (k : ℕ) → slot r w mark after c.in-Some.l k ≡ coeff r c.make_monic.new.row k) same c.keep_row.ensures.new)
+    (subst (λ w. (j k : ℕ) → j ≢ c.in-Some.l → slot r w mark after j k ≡ slot r w index cells j k) same c.keep_row.ensures.kept)

@@ -37,4 +37,6 @@ returns g c =
       };
       below = below_joined index c.args.l c.args.count inside c.requires.below;
       inserted = joined_inserted r ring w index cells row c.args.l (is_lead mark) (slot r w mark after) refl t joins joined ai;
+      new = joined.new;
+      kept = joined.old;
     }

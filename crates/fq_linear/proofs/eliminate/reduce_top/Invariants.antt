@@ -2,6 +2,7 @@ use Rattle.std.proofs.Common.{◌≡◌, ℕ, ◌≤◌, true, length}
 use Rattle.ring_core.specs.Coeffs.{coeff, are_elems}
 use Rattle.linear_algebra.specs.Combines.{Combines}
 use Rattle.linear_algebra.specs.steps.Slots.{minus}
+use Rattle.fq_linear.specs.steps.Extents.{HasExtent}
 use Rattle.fq_linear.specs.steps.Elimination.{slot}
 use Rattle.fq_linear.proofs.eliminate.reduce_top.Given as goal
 
@@ -13,4 +14,5 @@ invariant-loop-j g l =
       elems : are_elems r l.row ≡ true;
       taken : Combines r (length l.fn.row) (slot r (length l.fn.row) l.index l.cells) (minus r (coeff r l.fn.row) (coeff r l.row));
       zero : (k : ℕ) → l.j ≤ k → coeff r l.row k ≡ r.zero;
+      extent : HasExtent r l.extent (coeff r l.row);
     }

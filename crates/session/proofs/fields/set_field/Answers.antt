@@ -1,11 +1,11 @@
-use Rattle.std.proofs.Common.{◌≡◌, None, refl, sym, subst, ◌∙◌}
+use Rattle.std.proofs.Common.{◌≡◌, None, refl, subst}
 use Rattle.script_statement.specs.declared.Form.TheVariants as form
 use Rattle.script_parse.specs.Version.{version_1}
 use Rattle.script_parse.specs.Within.{IsWithin}
-use Rattle.script_parse.proofs.VersionFit.{listed_primes}
 use Rattle.answer.specs.declared.FieldState.TheVariants as field
 use Rattle.statement_operands.specs.Demands.{demands}
 use Rattle.session.specs.Refusals.{field_refusal}
+use Rattle.session.proofs.Primes.{listed_prime}
 use Rattle.session.proofs.Stepping.{at_nothing, at_base, sets_base, sets_top}
 use Rattle.session.proofs.fields.set_field.Goals as goal
 
@@ -22,4 +22,4 @@ returns-in-Over-clause-ok c =
 pub set_base-requires-clause-listed : goal.set_base-requires-clause-listed
 set_base-requires-clause-listed c =
     let within : IsWithin version_1 (form.Base c.in-Base.p c.in-Base.s c.in-Base.modulus) = subst (IsWithin version_1) c.in-Base.is c.requires.within in
-    sym (listed_primes c.in-Base.p) ∙ within.0
+    listed_prime c.in-Base.p within.0

@@ -1,4 +1,4 @@
-use Rattle.std.proofs.Common.{◌≡◌, ◌≤◌, ◌<◌, ◌-◌, ◌^◌, length, sym, ap, subst, ◌∙◌, arith, rules, lt-ltb}
+use Rattle.std.proofs.Common.{◌≤◌, ◌<◌, ◌-◌, ◌^◌, length, sym, ap, subst, ◌∙◌, arith, rules, lt-ltb}
 use Rattle.ring_core.specs.Powers.{power_of}
 use Rattle.residue_field.specs.Base.{Base, ops_of, size_of, inverse_of}
 use Rattle.residue_field.proofs.BaseLaws.{base_field}

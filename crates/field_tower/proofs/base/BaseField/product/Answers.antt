@@ -1,4 +1,4 @@
-use Rattle.std.proofs.Common.{◌≤◌, ◌<◌, ◌+◌, ap, ◌∙◌, rules}
+use Rattle.std.proofs.Common.{ap, ◌∙◌, rules}
 use Rattle.residue_field.specs.Base.{Base, ops_of}
 use Rattle.residue_field.proofs.BaseLaws.{base_ring}
 use Rattle.field_tower.proofs.KindValues.{modular-mul, products_are, log_fits, power_fits, logged-mul}

@@ -1,4 +1,4 @@
-use Rattle.std.proofs.Common.{◌≤◌, ◌<◌, ◌+◌, ◌-◌, ◌*◌, ap, ◌∙◌, rules, arith}
+use Rattle.std.proofs.Common.{◌<◌, ap, ◌∙◌, rules, arith}
 use Rattle.residue_field.specs.Base.{Base, ops_of}
 use Rattle.residue_field.proofs.BaseLaws.{base_ring}
 use Rattle.residue_field.proofs.Listed.{listed_large}

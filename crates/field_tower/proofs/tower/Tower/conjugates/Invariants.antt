@@ -1,6 +1,5 @@
 use Rattle.std.proofs.Common.{◌≡◌}
 use Rattle.residue_field.specs.Top.{ops_of_top, frob_of_top}
-use Rattle.ring_core.specs.Ring.{IsElem}
 use Rattle.field_tower.specs.steps.Norm.{conjugate_product}
 use Rattle.field_tower.proofs.tower.Tower.conjugates.Given as goal
 

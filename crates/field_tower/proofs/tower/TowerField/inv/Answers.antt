@@ -1,4 +1,4 @@
-use Rattle.std.proofs.Common.{◌≡◌, slice_index_or, Some, sym, ap, ap₂, subst, ◌∙◌}
+use Rattle.std.proofs.Common.{slice_index_or, Some, sym, ap, ap₂, subst, ◌∙◌}
 use Rattle.ring_core.specs.Ring.{IsElem}
 use Rattle.residue_field.specs.Base.{ops_of, inverse_of}
 use Rattle.residue_field.specs.Top.{ops_of_top}

@@ -6,7 +6,7 @@ use Rattle.ring_core.proofs.Written.{written_more, next_place}
 use Rattle.residue_field.specs.Prime.{prime_ops}
 use Rattle.residue_field.proofs.Modular.{prime_ring}
 use Rattle.field_tower.proofs.Reciprocal.{sum_small, scaled_small}
-use Rattle.field_tower.proofs.row_sums.add_modulo.Goals as goal
+use Rattle.field_tower.proofs.row_sums.add_wide.Goals as goal
 
 pub remainder-requires-clause-product : goal.remainder-requires-clause-product
 remainder-requires-clause-product c =
@@ -15,7 +15,7 @@ remainder-requires-clause-product c =
     let old = slice_index_or c.loop-j.out (c.args.i + c.loop-j.j) 0 in
     let member = slice_index_or c.args.row.now c.loop-j.j 0 in
     let small : (old + c.args.c * member) * (8388608 / p) ≤ 256 * 8388608 =
-    scaled_small p old c.args.c member c.requires.small (ltb-true old p (elem_read (prime_ops p) c.loop-j.out zero_in c.loop-j.invariant.elems (c.args.i + c.loop-j.j)))
+    scaled_small p old c.args.c member 256 c.requires.small (ltb-true old p (elem_read (prime_ops p) c.loop-j.out zero_in c.loop-j.invariant.elems (c.args.i + c.loop-j.j)))
     (ltb-true c.args.c p c.requires.factor) (ltb-true member p (elem_read (prime_ops p) c.args.row.now zero_in c.requires.row c.loop-j.j)) 8388608 (8388608 / p) refl in
     omega arith
 
@@ -25,8 +25,8 @@ remainder-requires-clause-fits c =
     let zero_in = (prime_ring p c.requires.large).closed.zero_in in
     let old = slice_index_or c.loop-j.out (c.args.i + c.loop-j.j) 0 in
     let member = slice_index_or c.args.row.now c.loop-j.j 0 in
-    let small : old + c.args.c * member ≤ 65792 =
-    sum_small p old c.args.c member c.requires.small (ltb-true old p (elem_read (prime_ops p) c.loop-j.out zero_in c.loop-j.invariant.elems (c.args.i + c.loop-j.j)))
+    let small : old + c.args.c * member ≤ 256 * 257 =
+    sum_small p old c.args.c member 256 c.requires.small (ltb-true old p (elem_read (prime_ops p) c.loop-j.out zero_in c.loop-j.invariant.elems (c.args.i + c.loop-j.j)))
     (ltb-true c.args.c p c.requires.factor) (ltb-true member p (elem_read (prime_ops p) c.args.row.now zero_in c.requires.row c.loop-j.j)) in
     omega arith
 
