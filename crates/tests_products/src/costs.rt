@@ -62,8 +62,8 @@ fn costs_no_more<K: FrobField>(
     m: usize,
     n: usize,
 ) -> Result<bool, Fail> {
-    let most = (m * n) as u64;
-    let raised = (field.degree().min(m).saturating_sub(1) * n) as u64;
+    let most = m.saturating_mul(n) as u64;
+    let raised = field.degree().min(m).saturating_sub(1).saturating_mul(n) as u64;
     let (products, none) = polynomial_cost(alloc, field, c, m, n)?;
     let (twisted, steps) = twisted_cost(alloc, field, c, m, n)?;
     Ok(products <= most && none == 0 && twisted <= most && steps <= raised)
