@@ -1,5 +1,5 @@
 //! How many operations of the field a product of lists makes, and how many products a power.
-use super::fields::{FOUR, four_elements};
+use super::fields::{FOUR, SIXTY_FOUR, four_elements, sixty_four_elements};
 use fq_poly::{Poly, PolyRing};
 use ore_poly::{Ore, OreRing};
 use ring_core::{E, FrobField, Ring, power};
@@ -53,18 +53,35 @@ fn twisted_cost<K: FrobField>(
     Ok((counting.products(), counting.steps()))
 }
 
-/// At most `m n` products, and as many steps of the Frobenius; polynomials make no step.
+/// Whether products of lists of `m` and `n` members make at most `m n` products in the field. Polynomials make no step
+/// of the Frobenius, and twisted polynomials one for each member of the rows that differ, but for the first.
+fn costs_no_more<K: FrobField>(
+    alloc: Global,
+    field: &K,
+    c: E<K>,
+    m: usize,
+    n: usize,
+) -> Result<bool, Fail> {
+    let most = m.saturating_mul(n) as u64;
+    let raised = field.degree().min(m).saturating_sub(1).saturating_mul(n) as u64;
+    let (products, none) = polynomial_cost(alloc, field, c, m, n)?;
+    let (twisted, steps) = twisted_cost(alloc, field, c, m, n)?;
+    Ok(products <= most && none == 0 && twisted <= most && steps <= raised)
+}
+
 #[test]
 fn products_of_lists(rt: HostRuntime) -> Result<(), Fail> {
     let alloc = rt.alloc();
-    let field = tower(alloc, FOUR)?;
+    let four = tower(alloc, FOUR)?;
     let [_, _, z, _] = four_elements();
-    for (m, n) in [(0, 3), (3, 0), (1, 1), (3, 4), (4, 3), (20, 11)] {
-        let most = (m * n) as u64;
-        let (products, steps) = polynomial_cost(alloc, &field, z, m, n)?;
-        assert!(rt; products <= most && steps == 0, "{m} by {n}");
-        let (products, steps) = twisted_cost(alloc, &field, z, m, n)?;
-        assert!(rt; products <= most && steps <= most, "{m} by {n}");
+    let sixty_four = tower(alloc, SIXTY_FOUR)?;
+    let [_, _, _, w, _, _] = sixty_four_elements();
+    for (m, n) in [(0, 3), (3, 0), (1, 1), (3, 4), (4, 3), (20, 11), (65, 65)] {
+        assert!(rt; costs_no_more(alloc, &four, z, m, n)?, "{m} by {n}");
+        assert!(rt;
+            costs_no_more(alloc, &sixty_four, w, m, n)?,
+            "{m} by {n} in degree 3"
+        );
     }
     Ok(())
 }
