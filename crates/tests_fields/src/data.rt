@@ -1,7 +1,9 @@
 //! Elements of fields as the numbers with their digits.
 use super::plain::{Number, ROOM, digits, number};
 use field_tower::{Code, TopElem, WIDTH};
+use std::alloc::Global;
 use std::process::Abort;
+use std::test::Fail;
 
 /// `F_4[z] / (z^2 + z + a)`.
 pub const SIXTEEN: &str = "2 2; 1 1 1 | 2; 2 1 1";
@@ -26,4 +28,13 @@ pub fn top_element(q: Number, a: Number) -> TopElem {
         places[i] = Code::try_from(list[i]).unwrap_or(0);
     }
     TopElem(places)
+}
+
+/// The codes that are these numbers.
+pub fn codes_of(alloc: Global, list: &[Number]) -> Result<Vec<Code>, Fail> {
+    let mut codes = Vec::new(alloc);
+    for c in list {
+        codes.push(Code::try_from(*c)?)?;
+    }
+    Ok(codes)
 }

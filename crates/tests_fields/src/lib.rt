@@ -13,6 +13,8 @@ mod plain;
 #[cfg(test)]
 mod refusals;
 #[cfg(test)]
+mod row_sums;
+#[cfg(test)]
 mod tables;
 #[cfg(test)]
 mod tops;

@@ -1,7 +1,7 @@
 //! Minimal polynomials against the product of `x - b` over the different conjugates `b`, by the plain
 //! computation.
 
-use super::data::{SIXTEEN, top_element};
+use super::data::{SIXTEEN, codes_of, top_element};
 use super::plain::{Modulo, Number, Numbers, Residues, next_power, next_sample, sample_element};
 use field_tower::{Code, TopElem, Tower};
 use fq_poly::Poly;
@@ -57,15 +57,6 @@ fn conjugate_product<N: Numbers>(
         }
     }
     Err(Fail::new("conjugates that come round"))
-}
-
-/// The codes that are these numbers.
-fn codes_of(alloc: Global, list: &[Number]) -> Result<Vec<Code>, Fail> {
-    let mut codes = Vec::new(alloc);
-    for c in list {
-        codes.push(Code::try_from(*c)?)?;
-    }
-    Ok(codes)
 }
 
 /// The minimal polynomial of the element with this number.

@@ -10,7 +10,7 @@ use tests_support::fields::{base_data, make_base};
 
 /// The fields with at most 16 elements: the primes to 13, `F_4`, and `F_8`, `F_9` and `F_16` by every
 /// modulus.
-const SMALL: &str = "2 1; 0 1
+pub const SMALL: &str = "2 1; 0 1
 3 1; 0 1
 5 1; 0 1
 7 1; 0 1
@@ -29,7 +29,7 @@ const SMALL: &str = "2 1; 0 1
 /// Larger fields, each by one modulus: `a^2 - 2` over 5 and 13, `a^3 - a - 1`, `a^4 + a + 2` and
 /// `a^5 - a + 1` over 3, `a^2 + 1` over 7 and 11, `a^3 + a + 1` over 5, `a^5 + a^2 + 1`, `a^6 + a + 1`,
 /// `a^7 + a + 1` and `a^8 + a^4 + a^3 + a + 1` over 2, and the numbers modulo 251.
-const LARGE: &str = "5 2; 3 0 1
+pub const LARGE: &str = "5 2; 3 0 1
 3 3; 2 2 0 1
 2 5; 1 0 1 0 0 1
 7 2; 1 0 1
@@ -45,7 +45,7 @@ const LARGE: &str = "5 2; 3 0 1
 
 /// Fields of more than 256 elements: the numbers modulo 257, `a^16 + a^5 + a^3 + a + 1` over 2, `a^10 - a^2 + 1` over 3,
 /// `a^4 + a + 1` over 13 and `a^2 + 1` over 251.
-const WIDE: &str = "257 1; 0 1
+pub const WIDE: &str = "257 1; 0 1
 2 16; 1 1 0 1 0 1 0 0 0 0 0 0 0 0 0 0 1
 3 10; 1 0 2 0 0 0 0 0 0 0 1
 13 4; 1 1 0 0 1
@@ -125,6 +125,13 @@ fn check_all_pairs<N: Numbers>(rt: &impl Abort, field: &BaseField, plain: &N) ->
     Ok(())
 }
 
+fn check_all<N: Numbers>(rt: &impl Abort, field: &BaseField, plain: &N) -> Result<(), Fail> {
+    for a in 0..plain.size() {
+        check_one(rt, field, plain, a)?;
+    }
+    Ok(())
+}
+
 fn check_sample<N: Numbers>(rt: &impl Abort, field: &BaseField, plain: &N) -> Result<(), Fail> {
     let mut state = 1;
     for _ in 0..500 {
@@ -137,16 +144,19 @@ fn check_sample<N: Numbers>(rt: &impl Abort, field: &BaseField, plain: &N) -> Re
     Ok(())
 }
 
-/// Every element of the field, and all pairs of them.
-fn check_whole<N: Numbers>(rt: &impl Abort, field: &BaseField, plain: &N) -> Result<(), Fail> {
-    for a in 0..plain.size() {
-        check_one(rt, field, plain, a)?;
-    }
-    check_all_pairs(rt, field, plain)
+/// What of a field is compared.
+#[derive(Drop)]
+enum Extent {
+    /// Every element, and every pair.
+    Pairs,
+    /// Every element, and a sample of pairs.
+    Elements,
+    /// A sample of elements and of pairs.
+    Sample,
 }
 
-/// Zero, one and the size of the field of a row, and all of its elements or a sample.
-fn check_field(rt: &impl Abort, alloc: Global, row: &str, whole: bool) -> Result<(), Fail> {
+/// Zero, one and the size of the field of a row, and its elements and pairs.
+fn check_field(rt: &impl Abort, alloc: Global, row: &str, extent: Extent) -> Result<(), Fail> {
     let data = base_data(alloc, row)?;
     let field = make_base(alloc, &data)?;
     let constants = Modulo(data.p as Number);
@@ -156,18 +166,26 @@ fn check_field(rt: &impl Abort, alloc: Global, row: &str, whole: bool) -> Result
         (data.p, data.s, plain.size())
     );
     assert_eq!(rt; (field.zero(), field.one()), (0, 1));
-    if whole {
-        check_whole(rt, &field, &plain)
-    } else {
-        check_one(rt, &field, &plain, 0)?;
-        check_sample(rt, &field, &plain)
+    match extent {
+        Extent::Pairs => {
+            check_all(rt, &field, &plain)?;
+            check_all_pairs(rt, &field, &plain)
+        }
+        Extent::Elements => {
+            check_all(rt, &field, &plain)?;
+            check_sample(rt, &field, &plain)
+        }
+        Extent::Sample => {
+            check_one(rt, &field, &plain, 0)?;
+            check_sample(rt, &field, &plain)
+        }
     }
 }
 
 #[test]
 fn small_fields(rt: HostRuntime) -> Result<(), Fail> {
     for row in SMALL.split('\n') {
-        check_field(&rt, rt.alloc(), row, true)?;
+        check_field(&rt, rt.alloc(), row, Extent::Pairs)?;
     }
     Ok(())
 }
@@ -175,7 +193,7 @@ fn small_fields(rt: HostRuntime) -> Result<(), Fail> {
 #[test]
 fn large_fields(rt: HostRuntime) -> Result<(), Fail> {
     for row in LARGE.split('\n') {
-        check_field(&rt, rt.alloc(), row, false)?;
+        check_field(&rt, rt.alloc(), row, Extent::Elements)?;
     }
     Ok(())
 }
@@ -183,7 +201,7 @@ fn large_fields(rt: HostRuntime) -> Result<(), Fail> {
 #[test]
 fn wide_fields(rt: HostRuntime) -> Result<(), Fail> {
     for row in WIDE.split('\n') {
-        check_field(&rt, rt.alloc(), row, false)?;
+        check_field(&rt, rt.alloc(), row, Extent::Sample)?;
     }
     Ok(())
 }
