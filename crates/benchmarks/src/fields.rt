@@ -30,10 +30,10 @@ pub(super) struct FieldData {
 }
 
 /// `a`: the residues are the numbers modulo the prime.
-const LETTER: &[u32] = &[0, 1];
+pub(super) const LETTER: &[u32] = &[0, 1];
 
-/// `a^8 + a^4 + a^3 + a + 1`.
-const BYTES: &[u32] = &[1, 1, 0, 1, 1, 0, 0, 0, 1];
+/// `a^8 + a^4 + a^3 + a + 1`: over two elements there are 256 residues.
+pub(super) const BYTES: &[u32] = &[1, 1, 0, 1, 1, 0, 0, 0, 1];
 
 /// `a^16 + a^5 + a^3 + a + 1`.
 const WORDS: &[u32] = &[1, 1, 0, 1, 0, 1, 0, 0, 0, 0, 0, 0, 0, 0, 0, 0, 1];

@@ -1,4 +1,4 @@
-//! What the least relation of Frobenius takes, for modules of rank 2 and 8 over fields of the largest degree.
+//! What the least relation of Frobenius takes, for modules of rank 2 and 8 over fields of degree 12.
 ghost use Rattle.std.specs.Prelude.{◌≡◌};
 ghost use Rattle.ring_core.specs.Ring.{IsElem};
 

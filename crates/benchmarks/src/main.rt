@@ -1,7 +1,7 @@
 //! How long the kernel of a linear system takes, and how many products of the field it makes; what the
 //! calls of fields take; what the least relation of Frobenius, the height and an image of a module take; how many row
 //! operations the relations of rows of polynomials take; and how long the reader of scripts takes.
-//! With the word `linear` two large systems are measured, with `fields` the fields, with `frobenius` four
+//! With the word `linear` three large systems are measured, with `fields` the fields, with `frobenius` four
 //! modules, with `modules` one of rank 8, with `reductions` the rows of which full lists are made, with `parse` the
 //! script on standard input; with no word small systems and products, whose counts are compared with a bound.
 #![tactic(auto)]
@@ -17,6 +17,7 @@ mod reductions;
 mod scripts;
 
 use field_tower::{BaseField, multiply};
+use fields::{BYTES, LETTER};
 use fq_linear::{Rows, kernel};
 use random::{Random, Shape, random_rows};
 use ring_core::lists::all_elems;
@@ -106,12 +107,6 @@ fn residue_products<K: Field>(rt: &HostRuntime, field: &K, c: E<K>, n: usize) ->
     Ok(counting_field.products())
 }
 
-/// `a^8 + a^4 + a^3 + a + 1` over two elements: 256 residues.
-const BYTES: [u32; 9] = [1, 1, 0, 1, 1, 0, 0, 0, 1];
-
-/// `a`: the residues are the numbers modulo the prime.
-const BITS: [u32; 2] = [0, 1];
-
 /// The cost of a system over the residues modulo `p` and this modulus, with this many rows, places of a row, and places
 /// of a row that are drawn.
 fn cost_of(rt: &HostRuntime, p: u32, modulus: &[u32], sizes: [usize; 3]) -> io::Result<Cost> {
@@ -144,11 +139,11 @@ fn print(rt: &HostRuntime, name: &str, cost: &Cost) -> io::Result<()> {
 
 /// Measures a dense system over 256 elements, and sparse ones over two and over 251.
 fn large(rt: &HostRuntime) -> io::Result<bool> {
-    let dense = cost_of(rt, 2, &BYTES, [800, 900, 900])?;
+    let dense = cost_of(rt, 2, BYTES, [800, 900, 900])?;
     print(rt, "dense, 256 elements", &dense)?;
-    let sparse = cost_of(rt, 2, &BITS, [520, 584, 40])?;
+    let sparse = cost_of(rt, 2, LETTER, [520, 584, 40])?;
     print(rt, "sparse, 2 elements", &sparse)?;
-    let numbers = cost_of(rt, 251, &BITS, [520, 584, 40])?;
+    let numbers = cost_of(rt, 251, LETTER, [520, 584, 40])?;
     print(rt, "sparse, 251 elements", &numbers)?;
     Ok(dense.is_within() && sparse.is_within() && numbers.is_within())
 }
@@ -158,8 +153,8 @@ fn large(rt: &HostRuntime) -> io::Result<bool> {
 /// all zeros, whose bound is zero.
 fn small(rt: &HostRuntime) -> io::Result<bool> {
     for sizes in [[40, 45, 45], [45, 40, 40], [40, 45, 5], [40, 45, 0]] {
-        let bytes = cost_of(rt, 2, &BYTES, sizes)?;
-        let bits = cost_of(rt, 2, &BITS, sizes)?;
+        let bytes = cost_of(rt, 2, BYTES, sizes)?;
+        let bits = cost_of(rt, 2, LETTER, sizes)?;
         if !bytes.is_within() || !bits.is_within() {
             return Ok(false);
         }
@@ -171,7 +166,7 @@ fn small(rt: &HostRuntime) -> io::Result<bool> {
 /// Compares the products of a product of residues with the bound `2 n^2`, and prints a line that is
 /// always the same where all stay within it.
 fn small_residues(rt: &HostRuntime) -> io::Result<bool> {
-    let Ok(field) = BaseField::make(rt.alloc(), 2, 8, &BYTES) else {
+    let Ok(field) = BaseField::make(rt.alloc(), 2, 8, BYTES) else {
         return Err(no_memory());
     };
     for n in 1..17 {
