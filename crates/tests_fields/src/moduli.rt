@@ -15,7 +15,8 @@ fn monic(alloc: Global, p: u32, degree: u32, a: u32) -> Result<Vec<u32>, Fail> {
     let list = digits(p as Number, ROOM, a as Number);
     let mut modulus = Vec::new(alloc);
     for i in 0..degree {
-        modulus.push(list.get(i as usize).copied().unwrap_or(0) as u32)?;
+        let digit = list.get(i as usize).copied().unwrap_or(0);
+        modulus.push(u32::try_from(digit)?)?;
     }
     modulus.push(1)?;
     Ok(modulus)
