@@ -162,10 +162,15 @@ fn polynomial(powers: &[usize], c: Code) -> [Code; WIDTH + 1] {
     list
 }
 
+/// The degree of the polynomial with these coefficients.
+pub(super) fn degree(modulus: &[u32]) -> u32 {
+    u32::try_from(modulus.len()).unwrap_or(0).saturating_sub(1)
+}
+
 /// The top field modulo the first polynomial `c` and the data's powers of `z` that is accepted, for codes `c` from 0 up.
 pub(super) fn first_top(rt: &HostRuntime, data: &FieldData) -> io::Result<Made> {
     let n = data.powers.first().copied().unwrap_or(0).min(WIDTH);
-    let s = data.modulus.len().saturating_sub(1) as u32;
+    let s = degree(data.modulus);
     let start = Instant::now(rt)?;
     let made = BaseField::make(rt.alloc(), data.p, s, data.modulus);
     let base_time = start.elapsed(rt)?;
@@ -202,11 +207,11 @@ pub(super) fn first_top(rt: &HostRuntime, data: &FieldData) -> io::Result<Made> 
 
 /// What the call takes that refuses `a^s` as the modulus of a base over the numbers modulo the prime.
 fn refused_base(rt: &HostRuntime, data: &FieldData) -> io::Result<Duration> {
-    let s = data.modulus.len().saturating_sub(1);
-    let mut list = vec![in rt.alloc(); 0u32; s]?;
+    let s = degree(data.modulus);
+    let mut list = vec![in rt.alloc(); 0u32; s as usize]?;
     list.push(1)?;
     let start = Instant::now(rt)?;
-    let made = BaseField::make(rt.alloc(), data.p, s as u32, &list);
+    let made = BaseField::make(rt.alloc(), data.p, s, &list);
     let time = start.elapsed(rt)?;
     if made.is_ok() && 1 < s {
         return Err(invalid());

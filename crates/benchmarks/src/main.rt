@@ -17,7 +17,7 @@ mod reductions;
 mod scripts;
 
 use field_tower::{BaseField, multiply};
-use fields::{BYTES, LETTER};
+use fields::{BYTES, LETTER, degree};
 use fq_linear::{Rows, kernel};
 use random::{Random, Shape, random_rows};
 use ring_core::lists::all_elems;
@@ -110,8 +110,7 @@ fn residue_products<K: Field>(rt: &HostRuntime, field: &K, c: E<K>, n: usize) ->
 /// The cost of a system over the residues modulo `p` and this modulus, with this many rows, places of a row, and places
 /// of a row that are drawn.
 fn cost_of(rt: &HostRuntime, p: u32, modulus: &[u32], sizes: [usize; 3]) -> io::Result<Cost> {
-    let s = modulus.len().saturating_sub(1) as u32;
-    let Ok(field) = BaseField::make(rt.alloc(), p, s, modulus) else {
+    let Ok(field) = BaseField::make(rt.alloc(), p, degree(modulus), modulus) else {
         return Err(no_memory());
     };
     let [rows, width, drawn] = sizes;
