@@ -2,7 +2,7 @@
 //! a single coordinate, times the powers of tau below the degree of the field, under `u phi_T - phi_T u`. A row
 //! operation adds a multiple of one row, behind zeros, to another; the row's transform takes part in it. Each takes one
 //! inverse in the base, and nothing else takes one, so a base that counts its inverses counts them.
-ghost use Rattle.std.specs.Prelude.{◌≡◌, IfOk, OnOk, true};
+ghost use Rattle.std.specs.Prelude.{◌≡◌, ◌≤◌, IfOk, OnOk, true};
 ghost use Rattle.ring_core.specs.Ring.{IsElem};
 ghost use Rattle.ring_core.specs.Coeffs.{are_elems, is_canonical};
 ghost use Rattle.flat_modules.specs.Flat.{are_flat};
@@ -14,10 +14,13 @@ use central_coords::coordinates;
 use flat_reduce::kernel_rows;
 use fq_poly::Poly;
 use ore_poly::{Ore, OreRing};
+use poly_reduce::FlatRows;
+use popov_basis::relations_flat;
 use ring_core::lists::{all_elems, trimmed};
 use ring_core::{B, E, Field, FrobField, NoMemory, Ring};
 use std::alloc::Global;
 use std::io;
+use std::time::{Duration, Instant};
 use tests_support::counting::CountingField;
 
 /// The element whose coordinates are the binary digits of the number, lowest first.
@@ -138,42 +141,121 @@ fn push_images<K: FrobField, F: Field<Elem = B<K>>>(
     Ok(())
 }
 
+/// The rows of the module, over a field like the base.
+fn images<K: FrobField, F: Field<Elem = B<K>>>(
+    rt: &HostRuntime,
+    k: &K,
+    f: &F,
+    phi: &Ore<E<K>>,
+) -> io::Result<Vec<Poly<B<K>>>>
+    requires { is_canonical (K.ops k.now) phi.now ≡ true }
+    ensures { IfOk result (λ v. are_flat (F.ops f.now) v.items ≡ true) }
+{
+    let mut rows = Vec::new(rt.alloc());
+    for i in 0..k.degree() {
+        push_images(rt, k, f, phi, i, &mut rows)?;
+    }
+    Ok(rows)
+}
+
+/// The width of the rows.
+fn width<K: FrobField>(k: &K) -> usize
+    ensures { 1 ≤ result }
+{
+    k.degree().saturating_mul(k.degree()).max(1)
+}
+
 /// The row operations that the relations of the module's rows take.
 fn row_operations<K: FrobField>(rt: &HostRuntime, k: &K, phi: &Ore<E<K>>) -> io::Result<u64>
     requires { is_canonical (K.ops k.now) phi.now ≡ true }
 {
     let f = CountingField::new(k.base());
-    let n = k.degree();
-    let mut rows = Vec::new(rt.alloc());
-    for i in 0..n {
-        push_images(rt, k, &f, phi, i, &mut rows)?;
-    }
-    let width = n.saturating_mul(n).max(1);
-    match kernel_rows(rt.alloc(), &f, width, &rows) {
+    let rows = images(rt, k, &f, phi)?;
+    match kernel_rows(rt.alloc(), &f, width(k), &rows) {
         Ok(_relations) => Ok(f.inverses()),
         Err(_) => Err(no_memory()),
     }
 }
 
+/// What some basis of the relations of the module's rows takes, and what their standard basis takes.
+fn times<K: FrobField>(rt: &HostRuntime, k: &K, phi: &Ore<E<K>>) -> io::Result<(Duration, Duration)>
+    requires { is_canonical (K.ops k.now) phi.now ≡ true }
+{
+    let base = k.base();
+    let rows = images(rt, k, base, phi)?;
+    let start = Instant::now(rt)?;
+    let Ok(relations) = kernel_rows(rt.alloc(), base, width(k), &rows) else {
+        return Err(no_memory());
+    };
+    let kernel = start.elapsed(rt)?;
+    let rows = FlatRows::from_vec(rt.alloc(), width(k), rows);
+    let start = Instant::now(rt)?;
+    let Ok(basis) = relations_flat(rt.alloc(), base, &rows) else {
+        return Err(no_memory());
+    };
+    let standard = start.elapsed(rt)?;
+    if basis.len() != relations.len() {
+        return Err(invalid());
+    }
+    Ok((kernel, standard))
+}
+
 /// How many modules are drawn for each degree and rank.
 const MODULES: u32 = 100;
 
-/// Prints the fewest and the most row operations of drawn modules of this rank, and their mean.
+/// The least and the most of what was counted, and the sum.
+#[derive(Drop)]
+struct Counts {
+    least: u64,
+    most: u64,
+    sum: u64,
+}
+
+impl Counts {
+    fn new() -> Counts {
+        Counts {
+            least: u64::MAX,
+            most: 0,
+            sum: 0,
+        }
+    }
+
+    fn add(&mut self, count: u64) {
+        self.least = self.least.min(count);
+        self.most = self.most.max(count);
+        self.sum = self.sum.saturating_add(count);
+    }
+
+    fn mean(&self) -> u64 {
+        self.sum / MODULES as u64
+    }
+}
+
+/// Prints the fewest and the most row operations of drawn modules of this rank, and the least times, with their means.
 fn print_rank<K: FrobField>(rt: &HostRuntime, k: &K, rank: usize) -> io::Result<()> {
     let mut random = Random::new(2026);
-    let mut least = u64::MAX;
-    let mut most = 0;
-    let mut sum = 0u64;
+    let mut operations = Counts::new();
+    let mut kernels = Counts::new();
+    let mut bases = Counts::new();
     for _i in 0..MODULES {
         let phi = drawn(rt, k, &mut random, rank)?;
-        let count = row_operations(rt, k, &phi)?;
-        least = least.min(count);
-        most = most.max(count);
-        sum = sum.saturating_add(count);
+        operations.add(row_operations(rt, k, &phi)?);
+        let (kernel, standard) = times(rt, k, &phi)?;
+        kernels.add(u64::try_from(kernel.as_micros()).unwrap_or(u64::MAX));
+        bases.add(u64::try_from(standard.as_micros()).unwrap_or(u64::MAX));
     }
     println!(rt;
-        "  rank {rank}: {least} to {most} row operations, {} on average",
-        sum / MODULES as u64
+        "  rank {rank}: {} to {} row operations, {} on average",
+        operations.least,
+        operations.most,
+        operations.mean()
+    )?;
+    println!(rt;
+        "    a basis of the relations {} us at least, {} on average; the standard basis {}, {}",
+        kernels.least,
+        kernels.mean(),
+        bases.least,
+        bases.mean()
     )
 }
 
