@@ -1,5 +1,4 @@
-//! How many products a bounded list costs: those of the field that make the system, and those of the base that its
-//! kernel makes.
+//! How many products of the field make the system of a bounded list.
 use super::modules::bounded_between;
 use ring_core::{E, FrobField};
 use std::alloc::Global;
@@ -12,8 +11,7 @@ use tests_support::twisted::row;
 /// The field of 64 elements, modulo `z^3 + a` over the four residues modulo `a^2 + a + 1`.
 const SIXTY_FOUR: &str = "2 2; 1 1 1 | 3; 2 0 0 1";
 
-/// At most `(d + 2) n (r + 1)` products of the field, of which each is at most `2 n^2` of the base: fewer than the
-/// kernel makes.
+/// At most `(d + 2) n (r + 1)` products of the field.
 fn check_cost<K: FrobField>(
     rt: &impl Abort,
     alloc: Global,
@@ -32,11 +30,6 @@ fn check_cost<K: FrobField>(
         .saturating_mul(n)
         .saturating_mul(phi.len() as u64);
     assert!(rt; products <= most, "{text} up to {d}");
-    let system = products
-        .saturating_mul(n)
-        .saturating_mul(n)
-        .saturating_mul(2);
-    assert!(rt; system < counting.base_products(), "{text} up to {d}");
     Ok(())
 }
 
