@@ -55,7 +55,7 @@ impl LinearMap {
 }
 
 /// The powers by `q` of the powers of the letter below the degree.
-fn letter_images<F: Field<Elem = Code>>(
+pub(crate) fn letter_images<F: Field<Elem = Code>>(
     alloc: Global,
     field: &F,
     q: u32,
@@ -186,23 +186,25 @@ fn find_in_kernel<F: Field<Elem = Code>>(
 
 /// Two nonzero residues modulo `modulus` whose product is zero, over a field of `q` constants; None
 /// where there are none. Where only zero has the power `q` zero, and only constants have the power `q`
-/// that they are, there are none.
+/// that they are, there are none. The powers by `q` of the powers of the letter below the degree are
+/// `powers`.
 pub(crate) fn find_pair<F: Field<Elem = Code>>(
     alloc: Global,
     field: &F,
     q: u32,
     modulus: &[Code],
+    powers: &[TopElem],
 ) -> Result<Option<(TopElem, TopElem)>, NoMemory>
     requires monic { IsModulus (F.ops field.now) modulus.now }
     requires constants { IsFieldOfCodes (F.ops field.now) q }
+    requires powers { powers.now ≡ first_values (length modulus.now - 1) (letter_image (F.ops field.now) q modulus.now) }
     ensures { let t = stored_ops (F.ops field.now) modulus.now in
         IfOk result (λ o. MatchOption o (HasNoPair t) (λ pair. IsPair t pair.0 pair.1)) }
 {
-    let powers = letter_images(alloc, field, q, modulus)?;
-    if let Some(x) = find_in_kernel(alloc, field, q, modulus, &powers, LinearMap::Power)? {
+    if let Some(x) = find_in_kernel(alloc, field, q, modulus, powers, LinearMap::Power)? {
         return Ok(Some(power_pair(field, q, modulus, x)));
     }
-    if let Some(x) = find_in_kernel(alloc, field, q, modulus, &powers, LinearMap::Difference)? {
+    if let Some(x) = find_in_kernel(alloc, field, q, modulus, powers, LinearMap::Difference)? {
         return Ok(Some(factor_pair(field, q, modulus, x)));
     }
     Ok(None)

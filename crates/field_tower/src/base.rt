@@ -14,7 +14,7 @@ ghost use Rattle.field_tower.specs.Pairs.{IsPair};
 ghost use Rattle.field_tower.specs.MakeBase.{MakesBase, IsBaseOf, reduced as reduced_list};
 ghost use Rattle.field_tower.specs.steps.Parts.{IsFaultOf};
 
-use super::accept::find_pair;
+use super::accept::{find_pair, letter_images};
 use super::fault::BaseFault;
 use super::logs::{ProductKind, Products, made_products};
 use super::prime::PrimeField;
@@ -261,7 +261,8 @@ fn code_pair(
     ensures { let k = base_ops prime.now.p (length modulus.now - 2) modulus.now in
         IfOk result (λ o. MatchOption o (HasNoPair k) (λ pair. IsPair k pair.0 pair.1)) }
 {
-    let Some((a, b)) = find_pair(alloc, prime, prime.p, modulus)? else {
+    let powers = letter_images(alloc, prime, prime.p, modulus)?;
+    let Some((a, b)) = find_pair(alloc, prime, prime.p, modulus, &powers)? else {
         return Ok(None);
     };
     let left = code_at(prime, modulus, a);

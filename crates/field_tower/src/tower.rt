@@ -14,7 +14,7 @@ ghost use Rattle.field_tower.specs.steps.Lanes.{letter_row};
 ghost use Rattle.field_tower.specs.steps.Norm.{conjugate_product};
 ghost use Rattle.minimal_poly.specs.MinPoly.{IsMinPoly};
 
-use super::accept::find_pair;
+use super::accept::{find_pair, letter_images};
 use super::base::BaseField;
 use super::fault::TowerFault;
 use super::frobenius::images;
@@ -70,7 +70,9 @@ fn top_pair(
     ensures { let t = top_ops base.now (n - 1) modulus.now in
         IfOk result (λ o. MatchOption o (HasNoPair t) (λ pair. IsPair t pair.0 pair.1)) }
 {
-    find_pair(alloc, base, base.q(), modulus)
+    let q = base.q();
+    let powers = letter_images(alloc, base, q, modulus)?;
+    find_pair(alloc, base, q, modulus, &powers)
 }
 
 /// What a top field keeps beside its base.

@@ -1,4 +1,4 @@
-use Rattle.std.proofs.Common.{◌≡◌, sym, ap, subst, ◌∙◌}
+use Rattle.std.proofs.Common.{sym, ap, subst, ◌∙◌}
 use Rattle.ring_core.specs.Ring.{IsElem}
 use Rattle.ring_core.specs.Powers.{power_of}
 use Rattle.ring_core.proofs.Coefficients.{values_more}

@@ -5,8 +5,11 @@ use Rattle.field_tower.proofs.ConstantValues.{base_codes}
 use Rattle.field_tower.proofs.TopValues.{stored-top}
 use Rattle.field_tower.proofs.tower.top_pair.Goals as goal
 
+pub letter_images-requires-clause-constants : goal.letter_images-requires-clause-constants
+letter_images-requires-clause-constants c = base_codes c.args.base.now c.q-q.result c.q-q.ensures.value c.q-q.ensures.small
+
 pub find_pair-requires-clause-constants : goal.find_pair-requires-clause-constants
-find_pair-requires-clause-constants c = base_codes c.args.base.now c.q.result c.q.ensures.value c.q.ensures.small
+find_pair-requires-clause-constants c = base_codes c.args.base.now c.q-q.result c.q-q.ensures.value c.q-q.ensures.small
 
 pub returns : goal.returns
 returns c =
