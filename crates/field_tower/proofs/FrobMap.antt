@@ -19,12 +19,13 @@ use Rattle.residue_field.proofs.BaseLaws.{base_ring}
 use Rattle.residue_field.proofs.TopLaws.{IsTopShape, top_shape_ring, top_stored, top_shape_of, top_degree}
 use Rattle.residue_field.proofs.TopFrob.{top_frob_field, frob_places}
 use Rattle.ring_core.proofs.Twist.{frob_mod}
-use Rattle.field_tower.specs.steps.Places.{IsStored, stored}
+use Rattle.field_tower.specs.steps.Places.{IsStored, stored, stored_ops}
+use Rattle.field_tower.specs.steps.Kernel.{letter_power, letter_image}
 use Rattle.field_tower.specs.steps.Images.{frob_image, image_at, combined_images}
 use Rattle.field_tower.proofs.Stored.{stored_from}
 use Rattle.field_tower.proofs.PowerSteps.{power_none, power_size}
 use Rattle.field_tower.proofs.BaseValues.{base-zero}
-use Rattle.field_tower.proofs.TopValues.{top_elems}
+use Rattle.field_tower.proofs.TopValues.{top_elems, stored-top}
 
 pub image-read : (images : List TopElem) (count : ℕ) (f : ℕ → TopElem) → images ≡ first_values count f → (k : ℕ) → k < count → image_at images k ≡ f k
 image-read images count f e k l = ap (λ t. image_at t k) e ∙ at-first_values count f k _ l
@@ -64,6 +65,18 @@ module _ (base : Base) (n : ℕ) (modulus : List ℕ) (positive : 0 < n) (shape 
       let step : m / n ≡ k / n + 1 = ap (λ x. x / n) e ∙ add-div_right k positive in
       power_size ops (top_shape_ring base (n - 1) modulus shape) (unit (k % n)) (unit_in (k % n) (omega arith)) (size_of base) (k / n)
       ∙ ap₂ (λ j i. power_of ops (unit j) (size_of base ^ i)) (sym place) (sym step)
+
+  -- the image under the first power is the power by the number of constants
+  pub image_second : length modulus ≡ n + 1 → (m : ℕ) → n ≤ m → m < 2 * n → letter_image (ops_of base) (size_of base) modulus (m - n) ≡ frob_image base n modulus m
+  image_second len m high low =
+      let r = ops_of base in
+      let q = size_of base in
+      let t = top_ops base (n - 1) modulus in
+      let count : length modulus - 1 ≡ n = omega arith in
+      ap (λ k. power_of (stored_ops r modulus) (letter_power r k (m - n)) q) count
+      ∙ ap (λ u. power_of u (letter_power r n (m - n)) q) (stored-top base n modulus len)
+      ∙ ap (λ x. power_of t x q) (image_first (m - n) (omega arith))
+      ∙ image_next (m - n) m (omega arith)
 
 stored_elem : (t : Top) (a : TopElem) → IsElem (ops_of_top t) a → IsStored (ops_of t.base) (t.n - 1) a
 unfolding top_ops

@@ -7,7 +7,7 @@ use Rattle.residue_field.specs.Residue.{constant_at, shifted, times_x, residue}
 
 module _ {E : Type 0} (r : RingOps E) (h : IsRing r) (n : ℕ) (f : ℕ → E) (f_in : (i : ℕ) → IsElem r (f i)) where
   -- a multiple of the modulus by zero takes nothing away
-  minus_none : (x : E) (i : ℕ) → IsElem r x → r.add x (r.neg (r.mul r.zero (f i))) ≡ x
+  pub minus_none : (x : E) (i : ℕ) → IsElem r x → r.add x (r.neg (r.mul r.zero (f i))) ≡ x
   minus_none x i e =
       let R = elements h in
       let a : Element r = (x, e) in

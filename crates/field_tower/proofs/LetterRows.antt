@@ -19,7 +19,7 @@ abbrev pub power_at : RingOps ℕ → List ℕ → ℕ → TopElem
 power_at r modulus k = stored r (length modulus - 2) (letter_residue r (length modulus - 2) (coeff r modulus) k)
 
 -- the places below the degree decide
-stored_same : (r : RingOps ℕ) (d : ℕ) (g k : ℕ → ℕ) → ((i : ℕ) → i < suc d → g i ≡ k i) → stored r d g ≡ stored r d k
+pub stored_same : (r : RingOps ℕ) (d : ℕ) (g k : ℕ → ℕ) → ((i : ℕ) → i < suc d → g i ≡ k i) → stored r d g ≡ stored r d k
 unfolding stored
 stored_same r d g k e =
     ap top_elem

@@ -32,3 +32,4 @@ pub mod PowerRows
 pub mod Sliding
 pub mod ModularProduct
 pub mod LetterRows
+pub mod LetterPowers

@@ -10,6 +10,7 @@ ghost use Rattle.field_tower.specs.steps.Lanes.{letter_row};
 use super::places;
 use super::residues::step;
 use residue_field::{Code, TopElem};
+use ring_core::lists::coeff_at;
 use ring_core::{Field, NoMemory};
 use std::alloc::Global;
 
@@ -25,16 +26,16 @@ fn times_letter<F: Field<Elem = Code>>(field: &F, modulus: &[Code], x: TopElem) 
     TopElem(list)
 }
 
-/// The residue of the power of the letter by the degree of the modulus.
+/// The residue of the power of the letter by the degree of the modulus: minus the low coefficients of the modulus.
 fn first_row<F: Field<Elem = Code>>(field: &F, modulus: &[Code]) -> TopElem
     requires monic { IsModulus (F.ops field.now) modulus.now }
     ensures { result ≡ letter_row (F.ops field.now) modulus.now 0 }
 {
-    let mut x = places::one(field);
-    for _i in 0..modulus.len() - 1 {
-        x = times_letter(field, modulus, x);
+    let mut places = places::zeros(field);
+    for i in 0..modulus.len() - 1 {
+        places[i] = field.neg(coeff_at(field, modulus, i));
     }
-    x
+    TopElem(places)
 }
 
 /// As many residues of powers of the letter as the modulus has degree, from that power on.

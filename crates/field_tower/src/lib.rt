@@ -16,6 +16,7 @@ mod logs;
 mod modular;
 mod pair;
 mod places;
+mod powers;
 mod prime;
 mod products;
 mod residues;

@@ -11,14 +11,16 @@ ghost use Rattle.field_tower.specs.steps.Places.{IsModulus};
 ghost use Rattle.field_tower.specs.Pairs.{IsPair};
 ghost use Rattle.field_tower.specs.steps.Images.{frob_image};
 ghost use Rattle.field_tower.specs.steps.Lanes.{letter_row};
+ghost use Rattle.field_tower.specs.steps.Kernel.{letter_image};
 ghost use Rattle.field_tower.specs.steps.Norm.{conjugate_product};
 ghost use Rattle.minimal_poly.specs.MinPoly.{IsMinPoly};
 
-use super::accept::{find_pair, letter_images};
+use super::accept::find_pair;
 use super::base::BaseField;
 use super::fault::TowerFault;
 use super::frobenius::images;
 use super::letters::letter_rows;
+use super::powers::letter_images;
 use super::{places, products};
 use fq_poly::Poly;
 use minimal_poly::min_poly;
@@ -64,15 +66,15 @@ fn top_pair(
     base: &BaseField,
     n: usize,
     modulus: &[Code],
+    powers: &[TopElem],
 ) -> Result<Option<(TopElem, TopElem)>, NoMemory>
     requires monic { IsModulus (ops_of base.now) modulus.now }
     requires degree { length modulus.now ≡ n + 1 }
+    requires powers { powers.now ≡ first_values (length modulus.now - 1) (letter_image (ops_of base.now) (size_of base.now) modulus.now) }
     ensures { let t = top_ops base.now (n - 1) modulus.now in
         IfOk result (λ o. MatchOption o (HasNoPair t) (λ pair. IsPair t pair.0 pair.1)) }
 {
-    let q = base.q();
-    let powers = letter_images(alloc, base, q, modulus)?;
-    find_pair(alloc, base, q, modulus, &powers)
+    find_pair(alloc, base, base.q(), modulus, powers)
 }
 
 /// What a top field keeps beside its base.
@@ -138,15 +140,18 @@ impl Tower {
         if modulus.len() != degree + 1 || modulus[degree] != base.one() {
             return Err(TowerFault::BadModulus);
         }
-        match top_pair(alloc, base, degree, modulus) {
+        let Ok(letters) = letter_rows(alloc, base, modulus) else {
+            return Err(TowerFault::NoMemory);
+        };
+        let Ok(powers) = letter_images(alloc, base, modulus, &letters) else {
+            return Err(TowerFault::NoMemory);
+        };
+        match top_pair(alloc, base, degree, modulus, &powers) {
             Ok(None) => (),
             Ok(Some((a, b))) => return Err(TowerFault::ZeroDivisors { a, b }),
             Err(NoMemory) => return Err(TowerFault::NoMemory),
         }
-        let Ok(images) = images(alloc, base, degree, modulus) else {
-            return Err(TowerFault::NoMemory);
-        };
-        let Ok(letters) = letter_rows(alloc, base, modulus) else {
+        let Ok(images) = images(alloc, base, degree, modulus, &powers) else {
             return Err(TowerFault::NoMemory);
         };
         let Ok(modulus) = Vec::from_slice(alloc, modulus) else {

@@ -1,6 +1,6 @@
-use Rattle.std.proofs.Common.{◌≡◌}
-use Rattle.field_tower.proofs.LetterRows.{power_at}
+use Rattle.ring_core.specs.Coeffs.{coeff}
+use Rattle.field_tower.proofs.FilledPlaces.{AreFilled}
 use Rattle.field_tower.proofs.letters.first_row.Given as goal
 
 abbrev pub invariant-loop-i : goal.invariant-loop-i
-invariant-loop-i g l = l.x ≡ power_at (g.F.Field.ops l.field) l.modulus l._i
+invariant-loop-i g l = let r = g.F.Field.ops l.field in AreFilled r (λ j. r.neg (coeff r l.modulus j)) l.i l.places

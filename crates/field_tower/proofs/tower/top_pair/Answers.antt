@@ -1,15 +1,20 @@
-use Rattle.std.proofs.Common.{subst, MatchOption, IfOk}
+use Rattle.std.proofs.Common.{◌-◌, length, sym, ap, subst, ◌∙◌, MatchOption, IfOk}
+use Rattle.ring_core.specs.Coeffs.{first_values}
 use Rattle.finite_ring.specs.Finite.{HasNoPair}
+use Rattle.residue_field.specs.Base.{ops_of}
 use Rattle.field_tower.specs.Pairs.{IsPair}
+use Rattle.field_tower.specs.steps.Kernel.{letter_image}
 use Rattle.field_tower.proofs.ConstantValues.{base_codes}
 use Rattle.field_tower.proofs.TopValues.{stored-top}
 use Rattle.field_tower.proofs.tower.top_pair.Goals as goal
 
-pub letter_images-requires-clause-constants : goal.letter_images-requires-clause-constants
-letter_images-requires-clause-constants c = base_codes c.args.base.now c.q-q.result c.q-q.ensures.value c.q-q.ensures.small
-
 pub find_pair-requires-clause-constants : goal.find_pair-requires-clause-constants
-find_pair-requires-clause-constants c = base_codes c.args.base.now c.q-q.result c.q-q.ensures.value c.q-q.ensures.small
+find_pair-requires-clause-constants c = base_codes c.args.base.now c.q.result c.q.ensures.value c.q.ensures.small
+
+pub find_pair-requires-clause-powers : goal.find_pair-requires-clause-powers
+find_pair-requires-clause-powers c =
+    let modulus = c.args.modulus.now in
+    c.requires.powers ∙ ap (λ q. first_values (length modulus - 1) (letter_image (ops_of c.args.base.now) q modulus)) (sym c.q.ensures.value)
 
 pub returns : goal.returns
 returns c =

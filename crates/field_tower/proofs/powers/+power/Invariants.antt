@@ -1,0 +1,4 @@
+use Rattle.field_tower.proofs.powers.+power.Given as goal
+
+abbrev pub decreases-power : goal.decreases-power
+decreases-power l = l.k
