@@ -1,5 +1,5 @@
 -- The norm of an element of a top field, and the inverse from it.
-use Rattle.std.proofs.Common.{◌≡◌, ℕ, zero, suc, ◌+◌, ◌-◌, ◌≤◌, inl, inr, Some, None, MatchOption, List, length, slice_index_or, sym, ap, subst, ◌∙◌, arith, eqb-true}
+use Rattle.std.proofs.Common.{◌≡◌, ℕ, suc, ◌+◌, ◌-◌, ◌≤◌, inl, inr, Some, None, MatchOption, List, length, slice_index_or, sym, ap, subst, ◌∙◌, arith, eqb-true}
 use Rattle.std.proofs.lemmas.Bool.{and_parts, cases_lt}
 use Rattle.ring_core.specs.Ring.{IsElem}
 use Rattle.ring_core.specs.Coeffs.{coeff}
@@ -15,19 +15,16 @@ use Rattle.residue_field.proofs.TopFrob.{top_frob_field}
 use Rattle.residue_field.proofs.TopPlaces.{same_by_coeff}
 use Rattle.field_tower.specs.steps.Norm.{conjugate_product}
 use Rattle.field_tower.proofs.BaseValues.{base-zero}
+use Rattle.field_tower.proofs.Shifts.{constant_at_in}
 use Rattle.field_tower.proofs.Stored.{top_elem}
 use Rattle.field_tower.proofs.TopValues.{top-embed, top-one, top-zero, top-is_elem}
 use Rattle.field_tower.proofs.Norm.{norm_is, norm_none, norm_some}
 
 module _ (t : Top) where
-  constant_in : (b : ℕ) → IsElem (ops_of t.base) b → (j : ℕ) → IsElem (ops_of t.base) (constant_at (ops_of t.base) b j)
-  constant_in b e zero = e
-  constant_in b e (suc j) = (base_ring t.base).closed.zero_in
-
   embed_place : (b : ℕ) → IsElem (ops_of t.base) b → coeff (ops_of t.base) (embed_of t b).0 0 ≡ b
   unfolding embed_of
   embed_place b e =
-      (top_stored t.base (t.n - 1) t.modulus (top_shape_of t)).place_pack (constant_at (ops_of t.base) b) 0 (constant_in b e) (omega arith)
+      (top_stored t.base (t.n - 1) t.modulus (top_shape_of t)).place_pack (constant_at (ops_of t.base) b) 0 (constant_at_in (ops_of t.base) (base_ring t.base) b e) (omega arith)
 
   embed_one : embed_of t (ops_of t.base).one ≡ (ops_of_top t).one
   embed_one = sym (top-embed t (ops_of t.base).one) ∙ top-one t
