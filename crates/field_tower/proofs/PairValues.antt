@@ -19,7 +19,8 @@ use Rattle.field_tower.specs.steps.Constants.{IsFieldOfCodes}
 use Rattle.field_tower.specs.declared.accept.LinearMap.TheVariants.{Power, Difference}
 use Rattle.field_tower.specs.steps.Kernel.{IsLow, HasLowKernel}
 use Rattle.field_tower.proofs.Stored.{modulus_monic, stores_of, stored_ring}
-use Rattle.field_tower.proofs.StoredValues.{constant_at_in, constant_in}
+use Rattle.field_tower.proofs.Shifts.{constant_at_in}
+use Rattle.field_tower.proofs.StoredValues.{constant_in}
 use Rattle.field_tower.proofs.Kernels.{residue_same, residue_past, residue_place_in, zero_place, place_next}
 
 module _ (r : RingOps ℕ) (q : ℕ) (codes : IsFieldOfCodes r q) (modulus : List ℕ) (monic : IsModulus r modulus) where
@@ -37,7 +38,7 @@ module _ (r : RingOps ℕ) (q : ℕ) (codes : IsFieldOfCodes r q) (modulus : Lis
 
   pub constant_place : (b i : ℕ) → IsElem r b → i < n → coeff r ((top_places r d).pack (constant_at r b)).0 i ≡ constant_at r b i
   constant_place b i e l =
-      places.place_pack (constant_at r b) i (constant_at_in r codes.ring codes.commutes modulus monic b e) (place_next r q codes modulus monic i l)
+      places.place_pack (constant_at r b) i (constant_at_in r codes.ring b e) (place_next r q codes modulus monic i l)
 
   pub one_nonzero : (stored_ops r modulus).one ≢ (stored_ops r modulus).zero
   unfolding stored_ops

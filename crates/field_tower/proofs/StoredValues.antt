@@ -1,5 +1,5 @@
 -- What code finds of residues, over any commutative ring of codes.
-use Rattle.std.proofs.Common.{◌≡◌, ◌≢◌, ℕ, zero, suc, ◌-◌, Bool, true, false, true≢false, List, length, sym, ap, ◌∙◌}
+use Rattle.std.proofs.Common.{◌≡◌, ◌≢◌, ℕ, ◌-◌, Bool, true, false, true≢false, List, length, sym, ap, ◌∙◌}
 use Rattle.ring_core.specs.Ring.{RingOps, IsElem, IsRing, IsCommutative}
 use Rattle.ring_core.specs.Coeffs.{are_elems}
 use Rattle.residue_field.specs.declared.TopElem.{TopElem}
@@ -7,6 +7,7 @@ use Rattle.residue_field.specs.Residue.{constant_at}
 use Rattle.residue_field.specs.TopElem.{top_places}
 use Rattle.residue_field.proofs.TopPlaces.{elems_of}
 use Rattle.field_tower.specs.steps.Places.{IsModulus, IsStored, stored, stored_ops}
+use Rattle.field_tower.proofs.Shifts.{constant_at_in}
 use Rattle.field_tower.proofs.Stored.{fits_of, stores_of, stored_ring, elem_of, stored_of}
 
 module _ (r : RingOps ℕ) (hb : IsRing r) (commutes : IsCommutative r) (modulus : List ℕ) (monic : IsModulus r modulus) where
@@ -30,12 +31,8 @@ module _ (r : RingOps ℕ) (hb : IsRing r) (commutes : IsCommutative r) (modulus
   nonzero_if a b e is answer same =
       true≢false (sym (ring.equal.same_refl a e) ∙ ap ((stored_ops r modulus).same a) same ∙ sym is ∙ answer)
 
-  pub constant_at_in : (b : ℕ) → IsElem r b → (i : ℕ) → IsElem r (constant_at r b i)
-  constant_at_in b e zero = e
-  constant_at_in b e (suc i) = hb.closed.zero_in
-
   pub constant_stored : (b : ℕ) → IsElem r b → IsStored r d ((top_places r d).pack (constant_at r b))
-  constant_stored b e = (stores_of r hb modulus monic).pack_in (constant_at r b) (constant_at_in b e)
+  constant_stored b e = (stores_of r hb modulus monic).pack_in (constant_at r b) (constant_at_in r hb b e)
 
   pub constant_in : (b : ℕ) → IsElem r b → IsElem (stored_ops r modulus) ((top_places r d).pack (constant_at r b))
   constant_in b e = elem_of r modulus _ (constant_stored b e)
