@@ -19,6 +19,7 @@ mod places;
 mod prime;
 mod products;
 mod residues;
+mod row_products;
 mod row_sums;
 mod size;
 mod tables;
