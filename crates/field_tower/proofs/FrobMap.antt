@@ -1,5 +1,5 @@
 -- The Frobenius of a top field from the images of the powers of the letter.
-use Rattle.std.proofs.Common.{◌≡◌, ℕ, suc, ◌+◌, ◌-◌, ◌*◌, ◌/◌, ◌%◌, ◌^◌, ◌<◌, ◌≤◌, nat_eq, true, List, length, slice_index, slice_index_or, sym, ap, ap₂, subst, ◌∙◌, arith, eqb-true, mul-le-mul_right}
+use Rattle.std.proofs.Common.{◌≡◌, ℕ, suc, ◌+◌, ◌-◌, ◌*◌, ◌/◌, ◌%◌, ◌^◌, ◌<◌, ◌≤◌, nat_eq, true, List, length, sym, ap, ap₂, subst, ◌∙◌, arith, eqb-true, mul-le-mul_right}
 use Rattle.std.proofs.Math.Nat.{mod-eq_of_lt, div-eq_of_lt, add-div_right, add-mod_right}
 use Rattle.std.proofs.lemmas.Bool.{and_parts, cond_both}
 use Rattle.std.proofs.lemmas.Nat.{div-mul-add, mod-mul-add}
@@ -23,7 +23,6 @@ use Rattle.field_tower.specs.steps.Kernel.{letter_power, letter_image}
 use Rattle.field_tower.specs.steps.Images.{frob_image, image_at, combined_images}
 use Rattle.field_tower.proofs.Stored.{stored_from}
 use Rattle.field_tower.proofs.PowerSteps.{power_none, power_once, power_size}
-use Rattle.field_tower.proofs.BaseValues.{base-zero}
 use Rattle.field_tower.proofs.TopValues.{top_elems, stored-top}
 
 pub image-read : (images : List TopElem) (count : ℕ) (f : ℕ → TopElem) → images ≡ first_values count f → (k : ℕ) → k < count → image_at images k ≡ f k
@@ -108,19 +107,6 @@ module _ (t : Top) (images : List TopElem) (count : ℕ) (are : images ≡ first
       subst (IsStored (ops_of t.base) (t.n - 1)) (sym (image-read images count (frob_image t.base t.n t.modulus) are k low))
       (stored_elem t _ (image_in t.base t.n t.modulus (positive_degree t) (top_shape_of t) k))
 
-  -- the images are zero past the degree
-  pub part_past : (k i : ℕ) → k < length images → t.n ≤ i → slice_index (image_at images k).0 i ≡ 0
-  part_past k i l past =
-      let len : length images ≡ count = images_count images count (frob_image t.base t.n t.modulus) are in
-      let low : k < count = omega arith in
-      let x = frob_image t.base t.n t.modulus k in
-      let zero = base-zero t.base.p (t.base.s - 1) t.base.modulus in
-      let degree : suc (t.n - 1) ≡ t.n = top_degree t in
-      let e = stored_elem t x (image_in t.base t.n t.modulus (positive_degree t) (top_shape_of t) k) in
-      ap (λ y. slice_index y.0 i) (image-read images count (frob_image t.base t.n t.modulus) are k low)
-      ∙ ap (slice_index_or x.0 i) (sym zero)
-      ∙ (top_stored t.base (t.n - 1) t.modulus (top_shape_of t)).place_past x i e (omega arith) ∙ zero
-
   combined_is : (c : TopElem) (i l : ℕ) → IsElem (ops_of_top t) c → i * t.n + t.n ≤ count → l < t.n
       → coeff (ops_of t.base) ((frob_of_top t).frob c i).0 l ≡ combined_images (ops_of t.base) t.n images (i * t.n) c l
   unfolding combined_images
@@ -158,15 +144,8 @@ image_mapped t images m are rows =
     ∙ image_next t.base t.n t.modulus positive (top_shape_of t) (m - t.n) m (omega arith)
 
 module _ (t : Top) (images : List TopElem) (are : images ≡ first_values (t.n * t.n) (frob_image t.base t.n t.modulus)) where
-  -- the images are elements
-  pub images_elems : (k : ℕ) → k < length images → are_elems (ops_of t.base) (image_at images k).0 ≡ true
-  images_elems = part_elems t images (t.n * t.n) are
-
   pub images_stored : (k : ℕ) → k < length images → IsStored (ops_of t.base) (t.n - 1) (image_at images k)
   images_stored = part_stored t images (t.n * t.n) are
-
-  pub images_past : (k i : ℕ) → k < length images → t.n ≤ i → slice_index (image_at images k).0 i ≡ 0
-  images_past = part_past t images (t.n * t.n) are
 
   -- a row of images stands in the list
   pub row_inside : (i : ℕ) → i < t.n → i * t.n + t.n ≤ length images

@@ -31,6 +31,8 @@ pub mod PlainSums
 pub mod ModularForms
 pub mod PowerRows
 pub mod Sliding
+pub mod AddedRows
+pub mod ProductParts
 pub mod ModularProduct
 pub mod LetterRows
 pub mod LetterPowers

@@ -1,19 +1,16 @@
-ghost use Rattle.std.specs.Prelude.{◌≡◌, ℕ, ◌-◌, ◌+◌, ◌*◌, ◌<◌, ◌≤◌, IfOk, length, true};
-ghost use Rattle.ring_core.specs.Ring.{IsElem};
-ghost use Rattle.ring_core.specs.Coeffs.{are_elems, first_values};
-ghost use Rattle.residue_field.specs.declared.TheConstants.{WIDTH};
+ghost use Rattle.std.specs.Prelude.{◌≡◌, ◌-◌, ◌+◌, ◌*◌, IfOk, length};
+ghost use Rattle.ring_core.specs.Coeffs.{first_values};
 ghost use Rattle.residue_field.specs.Base.{ops_of, size_of};
 ghost use Rattle.residue_field.specs.Top.{IsTop};
-ghost use Rattle.field_tower.specs.steps.Places.{IsModulus, stored};
+ghost use Rattle.field_tower.specs.steps.Places.{IsModulus};
+ghost use Rattle.field_tower.specs.steps.Images.{frob_image};
 ghost use Rattle.field_tower.specs.steps.Kernel.{letter_image};
-ghost use Rattle.field_tower.specs.steps.Images.{frob_image, image_at, combined_images};
 
 use super::accept::unit;
 use super::base::BaseField;
-use super::{places, products};
+use super::products;
 use residue_field::{Code, TopElem};
-use ring_core::lists::coeff_at;
-use ring_core::{Field, NoMemory};
+use ring_core::NoMemory;
 use std::alloc::Global;
 
 /// The image that comes after the first `m` images: a power of the letter, its power by `q`, which is in
@@ -64,52 +61,4 @@ pub(crate) fn images(
         images.push(image)?;
     }
     Ok(images)
-}
-
-/// Coefficient `l` of the sum of the `n` images from the place `start` on, each multiplied with the
-/// coefficient of `c` at its place: `n` products.
-fn combined_at(
-    base: &BaseField,
-    n: usize,
-    images: &[TopElem],
-    start: usize,
-    c: TopElem,
-    l: usize,
-) -> Code
-    requires coeffs { are_elems (ops_of base.now) c.0 ≡ true }
-    requires images { (k : ℕ) → k < length images.now → are_elems (ops_of base.now) (image_at images.now k).0 ≡ true }
-    requires row { start + n ≤ length images.now }
-    ensures value { result ≡ combined_images (ops_of base.now) n images.now start c l }
-    ensures elem { IsElem (ops_of base.now) result }
-{
-    let mut sum = base.zero();
-    for j in 0..n {
-        let image = images[start + j];
-        let term = base.mul(coeff_at(base, &c.0, j), coeff_at(base, &image.0, l));
-        sum = base.add(sum, term);
-    }
-    sum
-}
-
-/// The sum of the `n` images from the place `start` on, each multiplied with the coefficient of `c` at
-/// its place: `n^2` products.
-pub(crate) fn combination(
-    base: &BaseField,
-    n: usize,
-    images: &[TopElem],
-    start: usize,
-    c: TopElem,
-) -> TopElem
-    requires positive { 0 < n }
-    requires room { n ≤ WIDTH }
-    requires coeffs { are_elems (ops_of base.now) c.0 ≡ true }
-    requires images { (k : ℕ) → k < length images.now → are_elems (ops_of base.now) (image_at images.now k).0 ≡ true }
-    requires row { start + n ≤ length images.now }
-    ensures { result ≡ stored (ops_of base.now) (n - 1) (combined_images (ops_of base.now) n images.now start c) }
-{
-    let mut places = places::zeros(base);
-    for l in 0..n {
-        places[l] = combined_at(base, n, images, start, c, l);
-    }
-    TopElem(places)
 }

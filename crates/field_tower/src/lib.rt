@@ -20,6 +20,7 @@ mod powers;
 mod prime;
 mod products;
 mod residues;
+mod row_products;
 mod row_sums;
 mod size;
 mod tables;

@@ -14,7 +14,7 @@ use super::lanes::{combined, multiplied};
 use residue_field::{Code, TopElem};
 use std::simd::prelude::*;
 
-/// What `frobenius::combination` gives, where the images are zero from the place `n` on.
+/// What `products::combination` gives, where the images are zero from the place `n` on.
 pub(crate) fn combination(
     base: &BaseField,
     n: usize,

@@ -1,6 +1,6 @@
-//! Products and sums of images in top fields, in the way that is fast for the base.
+//! Products, negatives and sums of images in top fields, in the way that is fast for the base.
 
-ghost use Rattle.std.specs.Prelude.{◌≡◌, ℕ, ◌+◌, ◌-◌, ◌<◌, ◌≤◌, length, slice_index, true};
+ghost use Rattle.std.specs.Prelude.{◌≡◌, ℕ, ◌+◌, ◌-◌, ◌<◌, ◌≤◌, length, true};
 ghost use Rattle.ring_core.specs.Ring.{IsElem};
 ghost use Rattle.ring_core.specs.Coeffs.{are_elems, first_values};
 ghost use Rattle.residue_field.specs.declared.TheConstants.{WIDTH};
@@ -10,7 +10,7 @@ ghost use Rattle.field_tower.specs.steps.Lanes.{letter_row};
 ghost use Rattle.field_tower.specs.steps.Images.{image_at, combined_images};
 
 use super::base::BaseField;
-use super::{bits, frobenius, modular, places};
+use super::{bits, modular, places, row_products};
 use residue_field::{Code, TopElem};
 
 /// The product of residues, where `letters` holds the residues of the powers of the letter from the degree of the
@@ -33,7 +33,20 @@ pub(crate) fn mul(
     } else if base.s() == 1 {
         modular::mul(base, modulus, letters, a, b)
     } else {
-        places::mul(base, modulus, a, b)
+        row_products::mul(base, modulus, letters, a, b)
+    }
+}
+
+/// The negative of a residue: in characteristic two the residue itself.
+pub(crate) fn neg(base: &BaseField, modulus: &[Code], a: TopElem) -> TopElem
+    requires monic { IsModulus (ops_of base.now) modulus.now }
+    requires elem { IsElem (stored_ops (ops_of base.now) modulus.now) a }
+    ensures { result ≡ (stored_ops (ops_of base.now) modulus.now).neg a }
+{
+    if base.p() == 2 {
+        a
+    } else {
+        places::neg(base, modulus, a)
     }
 }
 
@@ -48,9 +61,7 @@ pub(crate) fn combination(
     requires positive { 0 < n }
     requires room { n ≤ WIDTH }
     requires coeffs { are_elems (ops_of base.now) c.0 ≡ true }
-    requires images { (k : ℕ) → k < length images.now → are_elems (ops_of base.now) (image_at images.now k).0 ≡ true }
-    requires stored { (k : ℕ) → k < length images.now → IsStored (ops_of base.now) (n - 1) (image_at images.now k) }
-    requires past { (k i : ℕ) → k < length images.now → n ≤ i → slice_index (image_at images.now k).0 i ≡ 0 }
+    requires images { (k : ℕ) → k < length images.now → IsStored (ops_of base.now) (n - 1) (image_at images.now k) }
     requires row { start + n ≤ length images.now }
     ensures { result ≡ stored (ops_of base.now) (n - 1) (combined_images (ops_of base.now) n images.now start c) }
 {
@@ -59,6 +70,6 @@ pub(crate) fn combination(
     } else if base.s() == 1 {
         modular::combination(base, n, images, start, c)
     } else {
-        frobenius::combination(base, n, images, start, c)
+        row_products::combination(base, n, images, start, c)
     }
 }

@@ -21,7 +21,7 @@ use super::fault::TowerFault;
 use super::frobenius::images;
 use super::letters::letter_rows;
 use super::powers::letter_images;
-use super::{places, products};
+use super::{places, products, row_products};
 use fq_poly::Poly;
 use minimal_poly::min_poly;
 use residue_field::{Code, TopElem, WIDTH};
@@ -241,11 +241,11 @@ impl Field for Tower {
     }
 
     fn add(&self, a: TopElem, b: TopElem) -> TopElem {
-        places::add(&self.base, &self.modulus, a, b)
+        row_products::add(&self.base, &self.modulus, a, b)
     }
 
     fn neg(&self, a: TopElem) -> TopElem {
-        places::neg(&self.base, &self.modulus, a)
+        products::neg(&self.base, &self.modulus, a)
     }
 
     fn mul(&self, a: TopElem, b: TopElem) -> TopElem {

@@ -4,7 +4,7 @@ use Rattle.residue_field.specs.Top.{Top}
 use Rattle.field_tower.specs.steps.Images.{frob_image}
 use Rattle.field_tower.specs.steps.Kernel.{letter_image}
 use Rattle.field_tower.proofs.TopValues.{shape_from}
-use Rattle.field_tower.proofs.FrobMap.{image-read, images_count, image_first, image_second, part_elems, part_stored, part_past, image_mapped}
+use Rattle.field_tower.proofs.FrobMap.{image-read, images_count, image_first, image_second, part_elems, part_stored, image_mapped}
 use Rattle.field_tower.proofs.frobenius.next_image.Goals as goal
 
 pub returns-then-m-n : goal.returns-then-m-n
@@ -75,23 +75,7 @@ combination-requires-clause-images c =
     let m = c.args.m in
     let images = c.args.images.now in
     let t : Top = record { base = c.args.base.now; n = n; modulus = c.args.modulus.now; is_top = c.requires.top } in
-    part_elems t images m c.requires.before
-
-pub combination-requires-clause-stored : goal.combination-requires-clause-stored
-combination-requires-clause-stored c =
-    let n = c.args.n in
-    let m = c.args.m in
-    let images = c.args.images.now in
-    let t : Top = record { base = c.args.base.now; n = n; modulus = c.args.modulus.now; is_top = c.requires.top } in
     part_stored t images m c.requires.before
-
-pub combination-requires-clause-past : goal.combination-requires-clause-past
-combination-requires-clause-past c =
-    let n = c.args.n in
-    let m = c.args.m in
-    let images = c.args.images.now in
-    let t : Top = record { base = c.args.base.now; n = n; modulus = c.args.modulus.now; is_top = c.requires.top } in
-    part_past t images m c.requires.before
 
 pub combination-requires-clause-row : goal.combination-requires-clause-row
 combination-requires-clause-row c =

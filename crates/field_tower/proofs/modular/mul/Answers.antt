@@ -10,7 +10,8 @@ use Rattle.residue_field.proofs.BaseLaws.{base_ring, base_commutes}
 use Rattle.field_tower.specs.steps.Places.{stored, stored_ops}
 use Rattle.field_tower.proofs.Stored.{stored_from, stored_of, stored_ring}
 use Rattle.field_tower.proofs.ModularForms.{modular_of, large_of, read_is}
-use Rattle.field_tower.proofs.ModularProduct.{over-count, row-low, past_none, factor_low, factor_past, product_below}
+use Rattle.field_tower.proofs.ProductParts.{over-count}
+use Rattle.field_tower.proofs.ModularProduct.{row_low, past_none, factor_low, factor_past, product_below}
 use Rattle.field_tower.proofs.modular.mul.Goals as goal
 
 pub multiplied-requires-clause-left : goal.multiplied-requires-clause-left
@@ -54,7 +55,7 @@ multiplied-requires-clause-over c =
     let large = large_of base p c.p.ensures c.requires.prime in
     let modular = modular_of base p c.p.ensures c.requires.prime in
     let modulus = c.args.modulus.now in
-    row-low r p large modular (base_ring base) (base_commutes base) modulus c.requires.monic c.args.over.now c.requires.over
+    row_low r p large modular (base_ring base) (base_commutes base) modulus c.requires.monic c.args.over.now c.requires.over
 
 pub multiplied-requires-clause-rows : goal.multiplied-requires-clause-rows
 multiplied-requires-clause-rows c =
@@ -64,7 +65,7 @@ multiplied-requires-clause-rows c =
     let large = large_of base p c.p.ensures c.requires.prime in
     let modular = modular_of base p c.p.ensures c.requires.prime in
     let modulus = c.args.modulus.now in
-    let count = over-count r p large modular (base_ring base) (base_commutes base) modulus c.requires.monic c.args.over.now c.requires.over in
+    let count = over-count r (base_ring base) (base_commutes base) modulus c.requires.monic c.args.over.now c.requires.over in
     omega arith
 
 pub returns-clause-value : goal.returns-clause-value

@@ -15,7 +15,7 @@ add-requires-clause-right c =
 
 pub returns-clause-value : goal.returns-clause-value
 returns-clause-value c =
-    c.add.ensures.value ∙ ap (λ r. r.add c.args.a c.args.b) (ops-inside _ c.args.self.now c.self.view_is _ c.deref.ensures.value)
+    c.add.ensures ∙ ap (λ r. r.add c.args.a c.args.b) (ops-inside _ c.args.self.now c.self.view_is _ c.deref.ensures.value)
 
 pub returns-clause-elem : goal.returns-clause-elem
 returns-clause-elem c = ap (ops_of_top c.args.self.now).is_elem (returns-clause-value c) ∙ (top_ring c.args.self.now).closed.add_in _ _ c.requires.left c.requires.right

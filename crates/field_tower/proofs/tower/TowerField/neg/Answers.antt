@@ -11,7 +11,7 @@ neg-requires-clause-elem c =
 
 pub returns-clause-value : goal.returns-clause-value
 returns-clause-value c =
-    c.neg.ensures.value ∙ ap (λ r. r.neg c.args.a) (ops-inside _ c.args.self.now c.self.view_is _ c.deref.ensures.value)
+    c.neg.ensures ∙ ap (λ r. r.neg c.args.a) (ops-inside _ c.args.self.now c.self.view_is _ c.deref.ensures.value)
 
 pub returns-clause-elem : goal.returns-clause-elem
 returns-clause-elem c = ap (ops_of_top c.args.self.now).is_elem (returns-clause-value c) ∙ (top_ring c.args.self.now).closed.neg_in _ c.requires

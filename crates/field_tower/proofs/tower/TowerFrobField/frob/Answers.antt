@@ -3,7 +3,7 @@ use Rattle.ring_core.specs.Coeffs.{are_elems}
 use Rattle.residue_field.specs.Base.{ops_of}
 use Rattle.residue_field.specs.Top.{Top, ops_of_top}
 use Rattle.field_tower.proofs.TopValues.{top_elems}
-use Rattle.field_tower.proofs.FrobMap.{images_elems, images_stored, images_past, row_inside, frob_inside}
+use Rattle.field_tower.proofs.FrobMap.{images_stored, row_inside, frob_inside}
 use Rattle.residue_field.proofs.TopFrob.{top_frob_field}
 use Rattle.field_tower.proofs.tower.TowerFrobField.frob.Goals as goal
 
@@ -16,19 +16,7 @@ pub combination-requires-clause-images : goal.combination-requires-clause-images
 combination-requires-clause-images c =
     let inside = c.self.inside in
     let here : Top = record { base = inside.base; n = inside.n; modulus = inside.modulus.items; is_top = inside.is_top } in
-    images_elems here _ (c.deref.ensures.value ∙ inside.images_are)
-
-pub combination-requires-clause-stored : goal.combination-requires-clause-stored
-combination-requires-clause-stored c =
-    let inside = c.self.inside in
-    let here : Top = record { base = inside.base; n = inside.n; modulus = inside.modulus.items; is_top = inside.is_top } in
     images_stored here _ (c.deref.ensures.value ∙ inside.images_are)
-
-pub combination-requires-clause-past : goal.combination-requires-clause-past
-combination-requires-clause-past c =
-    let inside = c.self.inside in
-    let here : Top = record { base = inside.base; n = inside.n; modulus = inside.modulus.items; is_top = inside.is_top } in
-    images_past here _ (c.deref.ensures.value ∙ inside.images_are)
 
 pub combination-requires-clause-row : goal.combination-requires-clause-row
 combination-requires-clause-row c =
