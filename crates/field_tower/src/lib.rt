@@ -18,6 +18,7 @@ mod pair;
 mod places;
 mod prime;
 mod products;
+mod remainders;
 mod residues;
 mod row_sums;
 mod size;
