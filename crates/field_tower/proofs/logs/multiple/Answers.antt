@@ -1,4 +1,4 @@
-use Rattle.std.proofs.Common.{◌≡◌, ◌-◌, ◌<◌, ◌^◌, length, sym, ap, subst, refl, ◌∙◌}
+use Rattle.std.proofs.Common.{◌-◌, ◌<◌, ◌^◌, length, sym, ap, subst, refl, ◌∙◌}
 use Rattle.ring_core.proofs.FirstValues.{length-first_values}
 use Rattle.field_tower.proofs.CodeForms.{shape_from_modulus, size_from_modulus}
 use Rattle.field_tower.proofs.LogSteps.{row_below, row_sum}
