@@ -3,8 +3,8 @@ use Rattle.std.proofs.Common.{◌≡◌, ℕ, suc, ◌+◌, ◌-◌, ◌*◌, �
 use Rattle.std.proofs.lemmas.List.{get_or_read}
 use Rattle.ring_core.specs.Ring.{IsElem}
 use Rattle.residue_field.specs.Base.{Base, base_ops, ops_of, size_of}
-use Rattle.residue_field.proofs.BaseLaws.{IsBaseShape, degree_of, shape_of}
-use Rattle.residue_field.proofs.BaseForms.{prime_add, prime_mul, prime_neg, add-xor, neg-two}
+use Rattle.residue_field.proofs.BaseLaws.{degree_of}
+use Rattle.residue_field.proofs.BaseForms.{add-xor, neg-two}
 use Rattle.field_tower.specs.declared.tables.SumKind.{SumKind}
 use Rattle.field_tower.specs.declared.tables.SumKind.TheVariants as sum
 use Rattle.field_tower.specs.declared.tables.Sums.{Sums}
@@ -17,8 +17,8 @@ use Rattle.field_tower.specs.steps.Places.{IsModulus}
 use Rattle.field_tower.specs.declared.size.TheConstants.{CODES}
 use Rattle.residue_field.specs.Prime.{prime_ops}
 use Rattle.field_tower.proofs.BaseValues.{below_size}
+use Rattle.field_tower.proofs.ModularForms.{IsModular, base_modular}
 use Rattle.field_tower.proofs.BaseTables.{table_fits, table-value, row_fits, row-value, modulus_of}
-use Rattle.field_tower.proofs.PowerSteps.{power_once}
 
 -- k as the fields have it, n as the contracts name it
 module _ (k : Base) (q : ℕ) (count : q ≡ size_of k) (n : Base) (same : k ≡ n) where
@@ -38,30 +38,20 @@ module _ (k : Base) (q : ℕ) (count : q ≡ size_of k) (n : Base) (same : k ≡
 
   -- modulo the prime
   module _ (one : k.s - 1 ≡ 0) where
-    pub modular_below : (a : ℕ) → IsElem (ops_of n) a → a < k.p
-    modular_below a e =
-        let degree : k.s ≡ 1 = sym (degree_of k) ∙ ap suc one in
-        let power : k.p ^ 1 ≡ k.p = power_once k.p in
-        let low : a < k.p ^ 1 = subst (λ m. a < k.p ^ m) degree (subst (λ m. a < m) count (below a e)) in
-        omega arith
+    modular : IsModular (ops_of n) k.p
+    modular = subst (λ m. IsModular (ops_of m) k.p) same (base_modular k (sym (degree_of k) ∙ ap suc one))
 
-    shape : IsBaseShape k.p 0 k.modulus
-    shape = subst (λ m. IsBaseShape k.p m k.modulus) one (shape_of k)
+    pub modular_below : (a : ℕ) → IsElem (ops_of n) a → a < k.p
+    modular_below = modular.low
 
     pub modular-add : (a b : ℕ) → IsElem (ops_of n) a → IsElem (ops_of n) b → (a + b) % k.p ≡ (ops_of n).add a b
-    modular-add a b e d =
-        sym (prime_add k.p k.modulus shape a b (modular_below a e) (modular_below b d))
-        ∙ ap (λ m. (base_ops k.p m k.modulus).add a b) (sym one) ∙ ap (λ m. (ops_of m).add a b) same
+    modular-add a b e d = sym (modular.add_is a b (modular.low a e) (modular.low b d))
 
     pub modular-mul : (a b : ℕ) → IsElem (ops_of n) a → IsElem (ops_of n) b → (a * b) % k.p ≡ (ops_of n).mul a b
-    modular-mul a b e d =
-        sym (prime_mul k.p k.modulus shape a b (modular_below a e) (modular_below b d))
-        ∙ ap (λ m. (base_ops k.p m k.modulus).mul a b) (sym one) ∙ ap (λ m. (ops_of m).mul a b) same
+    modular-mul a b e d = sym (modular.mul_is a b (modular.low a e) (modular.low b d))
 
     pub modular-neg : (a : ℕ) → IsElem (ops_of n) a → (k.p - a) % k.p ≡ (ops_of n).neg a
-    modular-neg a e =
-        sym (prime_neg k.p k.modulus shape a (modular_below a e))
-        ∙ ap (λ m. (base_ops k.p m k.modulus).neg a) (sym one) ∙ ap (λ m. (ops_of m).neg a) same
+    modular-neg a e = sym (modular.neg_is a (modular.low a e))
 
   -- in characteristic two
   module _ (two : k.p ≡ 2) where

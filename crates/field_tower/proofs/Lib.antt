@@ -16,6 +16,7 @@ pub mod KindValues
 pub mod Inverses
 pub mod BaseValues
 pub mod FilledTables
+pub mod SumRows
 pub mod BaseTables
 pub mod TopValues
 pub mod FrobMap

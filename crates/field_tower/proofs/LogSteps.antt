@@ -32,6 +32,13 @@ module _ (p n : ℕ) (modulus : List ℕ) (shape : IsBaseShape p n modulus) (q :
   unfolding base_ops
   code_below a e = subst (λ k. a < k) (sym count) (ltb-true a (p ^ suc n) e)
 
+  pub sum_below : (u v : ℕ) → u < q → v < q → r.add u v < q
+  sum_below u v l m = code_below _ (ring.closed.add_in u v (code_in u l) (code_in v m))
+
+  -- a sum by that of a part
+  pub sum_split : (a u v b : ℕ) → u < q → v < q → b < q → r.add u v ≡ a → r.add u (r.add v b) ≡ r.add a b
+  sum_split a u v b l m n whole = sym (ring.add_assoc u v b (code_in u l) (code_in v m) (code_in b n)) ∙ ap (λ x. r.add x b) whole
+
   module _ (g : ℕ) (g_low : g < q) where
     g_in : IsElem r g
     g_in = code_in g g_low

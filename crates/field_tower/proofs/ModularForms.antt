@@ -8,7 +8,7 @@ use Rattle.ring_core.proofs.Coefficients.{elem_read}
 use Rattle.residue_field.specs.Base.{Base, base_ops, ops_of}
 use Rattle.residue_field.proofs.Listed.{listed_large}
 use Rattle.residue_field.proofs.BaseLaws.{IsBaseShape, shape_of}
-use Rattle.residue_field.proofs.BaseForms.{prime_add, prime_mul}
+use Rattle.residue_field.proofs.BaseForms.{prime_add, prime_neg, prime_mul}
 use Rattle.residue_field.proofs.BaseLaws.{base_ring}
 use Rattle.residue_field.proofs.TopPlaces.{top_stores}
 use Rattle.residue_field.specs.declared.TopElem.{TopElem}
@@ -20,12 +20,13 @@ use Rattle.field_tower.specs.steps.Lanes.{plain_sum, place_of}
 use Rattle.field_tower.proofs.PlainSums.{plain-same}
 use Rattle.field_tower.proofs.PowerSteps.{power_once}
 
--- the elements of r are the numbers below p, with the sum and the product modulo p
+-- the elements of r are the numbers below p, with the sum, the negative and the product modulo p
 pub record IsModular (r : RingOps ℕ) (p : ℕ) : Type 0 where
   pub zero_is : r.zero ≡ 0
   pub low : (a : ℕ) → IsElem r a → a < p
   pub elem : (a : ℕ) → a < p → IsElem r a
   pub add_is : (a b : ℕ) → a < p → b < p → r.add a b ≡ (a + b) % p
+  pub neg_is : (a : ℕ) → a < p → r.neg a ≡ (p - a) % p
   pub mul_is : (a b : ℕ) → a < p → b < p → r.mul a b ≡ (a * b) % p
 
 modular_shape : (p : ℕ) (modulus : List ℕ) → IsBaseShape p 0 modulus → IsModular (base_ops p 0 modulus) p
@@ -35,6 +36,7 @@ modular_shape p modulus shape = record {
   low = λ a e. subst (λ m. a < m) (power_once p) (ltb-true a (p ^ 1) e);
   elem = λ a l. lt-ltb a (p ^ 1) (subst (λ m. a < m) (sym (power_once p)) l);
   add_is = prime_add p modulus shape;
+  neg_is = prime_neg p modulus shape;
   mul_is = prime_mul p modulus shape;
 }
 

@@ -1,53 +1,69 @@
--- Remainders by a reciprocal: with `m` the quotient of `k` by `p`, the quotient of `x` by `p` is that of `x m` by `k`
--- or a little more.
+-- Remainders by a fraction that is known in advance: with `f` the quotient of `c k` by `p`, or one less, the quotient of `c x` by `p` is
+-- that of `x f` by `k` or a little more. With `c` one, `f` is the reciprocal of `p`.
 use native.Mathlib.Nat.{add-mul-mod_self_left}
-use Rattle.std.proofs.Common.{◌≡◌, ℕ, ◌+◌, ◌-◌, ◌*◌, ◌/◌, ◌%◌, ◌<◌, ◌≤◌, sym, ap, subst, ◌∙◌, arith, mul_assoc, mul_comm, mul_right_comm, mul-add, add-mul, mod-lt, div-mul-le_self, le_of_mul-le-mul_right, lt_of_mul-lt-mul_right}
+use Rattle.std.proofs.Common.{◌≡◌, ℕ, ◌+◌, ◌-◌, ◌*◌, ◌/◌, ◌%◌, ◌<◌, ◌≤◌, sym, ap, ◌∙◌, arith, mul_comm, mul_right_comm, add-mul, mod-lt, le_of_mul-le-mul_right, lt_of_mul-lt-mul_right}
 use Rattle.std.proofs.lemmas.Nat.{mul-le, div-add-mod', mod-mul-add}
+
+module _ (k p c f x : ℕ) (some : 0 < k) (low : f * p ≤ c * k) (high : c * k ≤ f * p + p) where
+  parts : (x * f / k) * k + (x * f) % k ≡ x * f
+  parts = div-add-mod' (x * f) k
+
+  part-lt : (x * f) % k < k
+  part-lt = mod-lt (x * f) some
+
+  pub fraction_low : x * f / k * p ≤ c * x
+  fraction_low = scaled_low (x * f / k) (omega (arith, parts))
+    where
+      scaled_low : (q : ℕ) → q * k ≤ x * f → q * p ≤ c * x
+      scaled_low q l =
+          let a : (q * k) * p ≤ (x * f) * p = mul-le (q * k) p (x * f) p l (omega arith) in
+          let b : (f * p) * x ≤ (c * k) * x = mul-le (f * p) x (c * k) x low (omega arith) in
+          let b1 : (x * f) * p ≡ (f * x) * p = ap (λ n. n * p) (mul_comm x f) in
+          let b2 : (f * x) * p ≡ (f * p) * x = mul_right_comm f x p in
+          let d : (q * k) * p ≡ (q * p) * k = mul_right_comm q k p in
+          let e : (c * k) * x ≡ (c * x) * k = mul_right_comm c k x in
+          le_of_mul-le-mul_right (omega arith) some
+
+  pub fraction_high : (n : ℕ) → x * p < n * k + p → c * x < x * f / k * p + (n + p)
+  fraction_high n fits = scaled_high (x * f / k) (omega (arith, parts, part-lt))
+    where
+      scaled_high : (q : ℕ) → x * f + 1 ≤ q * k + k → c * x < q * p + (n + p)
+      scaled_high q l =
+          let a : (x * f + 1) * p ≤ (q * k + k) * p = mul-le (x * f + 1) p (q * k + k) p l (omega arith) in
+          let a1 : (x * f + 1) * p ≡ (x * f) * p + 1 * p = add-mul (x * f) 1 p in
+          let a2 : (q * k + k) * p ≡ (q * k) * p + k * p = add-mul (q * k) k p in
+          let b : (c * k) * x ≤ (f * p + p) * x = mul-le (c * k) x (f * p + p) x high (omega arith) in
+          let b1 : (f * p + p) * x ≡ (f * p) * x + p * x = add-mul (f * p) p x in
+          let c1 : (x * f) * p ≡ (f * x) * p = ap (λ n. n * p) (mul_comm x f) in
+          let c2 : (f * x) * p ≡ (f * p) * x = mul_right_comm f x p in
+          let d : (q * k) * p ≡ (q * p) * k = mul_right_comm q k p in
+          let e : (c * k) * x ≡ (c * x) * k = mul_right_comm c k x in
+          let g : (q * p + (n + p)) * k ≡ (q * p) * k + (n + p) * k = add-mul (q * p) (n + p) k in
+          let g1 : (n + p) * k ≡ n * k + p * k = add-mul n p k in
+          let h : k * p ≡ p * k = mul_comm k p in
+          let h1 : p * x ≡ x * p = mul_comm p x in
+          let below : (c * x) * k < (q * p + (n + p)) * k = omega arith in
+          lt_of_mul-lt-mul_right k below
 
 module _ (k p x m : ℕ) (positive : 0 < p) (is : m ≡ k / p) (some : 0 < k) where
   whole : m * p + k % p ≡ k
   whole = ap (λ n. n * p + k % p) is ∙ div-add-mod' k p
 
-  rest-lt : k % p < p
-  rest-lt = mod-lt k positive
+  pub reciprocal_low : m * p ≤ 1 * k
+  reciprocal_low = omega (arith, whole)
 
-  parts : (x * m / k) * k + (x * m) % k ≡ x * m
-  parts = div-add-mod' (x * m) k
-
-  part-lt : (x * m) % k < k
-  part-lt = mod-lt (x * m) some
+  pub reciprocal_high : 1 * k ≤ m * p + p
+  reciprocal_high = omega (arith, whole, mod-lt k positive)
 
   pub quotient_low : x * m / k * p ≤ x
-  quotient_low = scaled_low (x * m / k) (omega (arith, parts))
-    where
-      scaled_low : (q : ℕ) → q * k ≤ x * m → q * p ≤ x
-      scaled_low q l =
-          let a : (q * k) * p ≤ (x * m) * p = mul-le (q * k) p (x * m) p l (omega arith) in
-          let b : x * (m * p) ≤ x * k = mul-le x (m * p) x k (omega arith) (omega (arith, whole)) in
-          let c : (x * m) * p ≡ x * (m * p) = mul_assoc x m p in
-          let d : (q * k) * p ≡ (q * p) * k = mul_right_comm q k p in
-          le_of_mul-le-mul_right (omega arith) some
+  quotient_low = omega (arith, fraction_low k p 1 m x some reciprocal_low reciprocal_high)
 
   -- less than `n + 1` times `p` is left where `x` is at most `n k`
   pub quotient_high : (n : ℕ) → x ≤ n * k → x < x * m / k * p + (n * p + p)
-  quotient_high n fits = scaled_high (x * m / k) (omega (arith, parts, part-lt))
-    where
-      scaled_high : (q : ℕ) → x * m + 1 ≤ q * k + k → x < q * p + (n * p + p)
-      scaled_high q l =
-          let a : (x * m + 1) * p ≤ (q * k + k) * p = mul-le (x * m + 1) p (q * k + k) p l (omega arith) in
-          let a1 : (x * m + 1) * p ≡ (x * m) * p + 1 * p = add-mul (x * m) 1 p in
-          let a2 : (q * k + k) * p ≡ (q * k) * p + k * p = add-mul (q * k) k p in
-          let b : x * k ≤ x * (m * p + p) = mul-le x k x (m * p + p) (omega arith) (omega (arith, whole, rest-lt)) in
-          let b1 : x * (m * p + p) ≡ x * (m * p) + x * p = mul-add x (m * p) p in
-          let c : (x * m) * p ≡ x * (m * p) = mul_assoc x m p in
-          let d : x * p ≤ (n * k) * p = mul-le x p (n * k) p fits (omega arith) in
-          let d1 : (n * k) * p ≡ (n * p) * k = mul_right_comm n k p in
-          let e : (q * k) * p ≡ (q * p) * k = mul_right_comm q k p in
-          let f : (q * p + (n * p + p)) * k ≡ (q * p) * k + (n * p + p) * k = add-mul (q * p) (n * p + p) k in
-          let f1 : (n * p + p) * k ≡ (n * p) * k + p * k = add-mul (n * p) p k in
-          let h : k * p ≡ p * k = mul_comm k p in
-          let g : x * k < (q * p + (n * p + p)) * k = omega arith in
-          lt_of_mul-lt-mul_right k g
+  quotient_high n fits =
+      let scaled : x * p ≤ (n * k) * p = mul-le x p (n * k) p fits (omega arith) in
+      let turned : (n * k) * p ≡ (n * p) * k = mul_right_comm n k p in
+      omega (arith, fraction_high k p 1 m x some reciprocal_low reciprocal_high (n * p) (omega arith))
 
   pub remainder_same : (x - x * m / k * p) % p ≡ x % p
   remainder_same = rest_same (x * m / k) quotient_low
@@ -65,30 +81,41 @@ remainder_is p x q n w e l =
     let whole : (q + n) * p + w ≡ x = omega arith in
     sym (ap (λ y. y % p) (sym whole) ∙ mod-mul-add (q + n) p w l)
 
--- what a row operation modulo `p` adds up to, before it is reduced
-module _ (p a c b n : ℕ) (small : p ≤ n + 1) (a_below : a < p) (c_below : c < p) (b_below : b < p) where
-  pub product_small : c * b ≤ n * n
-  product_small = mul-le c b n n (omega arith) (omega arith)
-
-  pub sum_small : a + c * b ≤ n * (n + 1)
-  sum_small =
-      let product = product_small in
-      let whole : n * (n + 1) ≡ n * n + n * 1 = mul-add n n 1 in
+-- a product below `257 p` by the fraction of `c` in 16 bits
+module _ (p x : ℕ) (small : p ≤ 257) (below : x < p) where
+  product_fits : x * p < 1 * 65536 + p
+  product_fits =
+      let less : x - 1 ≤ 255 = omega arith in
+      let scaled : (x - 1) * p ≤ 255 * 257 = mul-le (x - 1) p 255 257 less small in
+      let same : (x - 1 + 1) * p ≡ (x - 1) * p + 1 * p = add-mul (x - 1) 1 p in
+      let most : x * p ≤ (x - 1 + 1) * p = mul-le x p (x - 1 + 1) p (omega arith) (omega arith) in
       omega arith
 
-  pub scaled_small : (k m : ℕ) → m ≡ k / p → (a + c * b) * m ≤ n * k
-  scaled_small k m is =
-      let low : m * p ≤ k = subst (λ n. n * p ≤ k) (sym is) (div-mul-le_self k p) in
-      let scaled : (a + c * b) * m ≤ ((p - 1) * p) * m = mul-le (a + c * b) m ((p - 1) * p) m sum_low (omega arith) in
-      let turned : ((p - 1) * p) * m ≡ (p - 1) * (p * m) = mul_assoc (p - 1) p m in
-      let swapped : (p - 1) * (p * m) ≡ (p - 1) * (m * p) = ap (λ n. (p - 1) * n) (mul_comm p m) in
-      let most : (p - 1) * (m * p) ≤ n * k = mul-le (p - 1) (m * p) n k (omega arith) low in
-      omega arith
-    where
-      sum_low : a + c * b ≤ (p - 1) * p
-      sum_low =
-          let product : c * b ≤ (p - 1) * (p - 1) = mul-le c b (p - 1) (p - 1) (omega arith) (omega arith) in
-          let whole : (p - 1) * ((p - 1) + 1) ≡ (p - 1) * (p - 1) + (p - 1) * 1 = mul-add (p - 1) (p - 1) 1 in
-          let next : (p - 1) + 1 ≡ p = omega arith in
-          let same : (p - 1) * ((p - 1) + 1) ≡ (p - 1) * p = ap (λ n. (p - 1) * n) next in
-          omega arith
+-- a difference of words of 16 bits, where it has so few
+wrapped : (a b : ℕ) → b ≤ a → a < b + 65536 → (a % 65536 + (65536 - b % 65536)) % 65536 ≡ a - b
+wrapped a b l m = omega arith
+
+module _ (p c f x : ℕ) (small : p ≤ 257) (below : x < p) (low : f * p ≤ c * 65536) (high : c * 65536 ≤ f * p + p) where
+  pub taken_low : x * f / 65536 * p ≤ c * x
+  taken_low = fraction_low 65536 p c f x (omega arith) low high
+
+  pub taken_high : c * x ≤ x * f / 65536 * p + p
+  taken_high = omega (arith, fraction_high 65536 p c f x (omega arith) low high 1 (product_fits p x small below))
+
+  -- what is left of the product, in words
+  pub product_rest : (c * x % 65536 + (65536 - x * f / 65536 * p % 65536)) % 65536 ≡ c * x - x * f / 65536 * p
+  product_rest = wrapped (c * x) (x * f / 65536 * p) taken_low (omega (arith, taken_high))
+
+-- the fraction of `c` in 16 bits, by the reciprocal in 32
+module _ (p c m : ℕ) (small : p ≤ 257) (below : c < p) (is : m ≡ 4294967296 / p) where
+  low : m * p ≤ 65536 * 65536
+  low = omega (arith, reciprocal_low 4294967296 p 0 m (omega arith) is (omega arith))
+
+  high : 65536 * 65536 ≤ m * p + p
+  high = omega (arith, reciprocal_high 4294967296 p 0 m (omega arith) is (omega arith))
+
+  pub share_low : c * m / 65536 * p ≤ c * 65536
+  share_low = omega (arith, taken_low p 65536 m c small below low high)
+
+  pub share_high : c * 65536 ≤ c * m / 65536 * p + p
+  share_high = omega (arith, taken_high p 65536 m c small below low high)

@@ -7,10 +7,12 @@ use Rattle.ring_core.proofs.Coefficients.{elem_read}
 use Rattle.ring_core.proofs.Written.{elems_by_places}
 use Rattle.residue_field.specs.Prime.{prime_ops}
 use Rattle.residue_field.specs.Base.{Base, base_ops, ops_of, size_of}
-use Rattle.residue_field.proofs.BaseForms.{prime_add, prime_mul, add-xor}
-use Rattle.residue_field.proofs.BaseLaws.{IsBaseShape, base_ring, degree_of, shape_of}
+use Rattle.residue_field.proofs.BaseForms.{add-xor}
+use Rattle.residue_field.proofs.BaseLaws.{base_ring, degree_of}
+use Rattle.residue_field.proofs.Listed.{listed_large}
+use Rattle.field_tower.specs.steps.Logs.{IsLogTable}
 use Rattle.field_tower.proofs.BaseValues.{base-zero, base-one, below_size}
-use Rattle.field_tower.proofs.PowerSteps.{power_once}
+use Rattle.field_tower.proofs.ModularForms.{IsModular, base_modular}
 
 -- the same places, told of another default and of other values
 retold : (d e at n : ℕ) (f g : ℕ → ℕ) (before after : List ℕ) → d ≡ e → ((k : ℕ) → k < n → f k ≡ g k) → IsWritten d at n f before after → IsWritten e at n g before after
@@ -29,6 +31,16 @@ module _ (k : Base) where
   pub member_below : (u : List ℕ) (i : ℕ) → are_elems (ops_of k) u ≡ true → slice_index_or u i 0 < size_of k
   member_below u i e =
       subst (λ x. x < size_of k) (sym (read_zero u i)) (below_size k _ (elem_read (ops_of k) u (base_ring k).closed.zero_in e i))
+
+  -- a product by logarithms
+  module _ (powers logs : List ℕ) (tables : IsLogTable (size_of k) (ops_of k).mul powers logs) (c : ℕ) (row : List ℕ) (c_in : IsElem (ops_of k) c) (row_in : are_elems (ops_of k) row ≡ true) (j : ℕ) where
+    pub term_is : slice_index_or powers (slice_index_or logs c 0 + slice_index_or logs (slice_index_or row j 0) 0) 0 ≡ (ops_of k).mul c (coeff (ops_of k) row j)
+    term_is = tables.value c (slice_index_or row j 0) (below_size k c c_in) (member_below row j row_in) ∙ ap ((ops_of k).mul c) (read_zero row j)
+
+    pub term_below : slice_index_or powers (slice_index_or logs c 0 + slice_index_or logs (slice_index_or row j 0) 0) 0 < size_of k
+    term_below =
+        let closed = (base_ring k).closed in
+        subst (λ x. x < size_of k) (sym term_is) (below_size k _ (closed.mul_in _ _ c_in (elem_read (ops_of k) row closed.zero_in row_in j)))
 
   below_power : (a : ℕ) → k.p ≡ 2 → a < size_of k → a < 2 ^ suc (k.s - 1)
   below_power a two l = subst (λ n. a < n) (ap₂ ◌^◌ two (sym (degree_of k))) l
@@ -62,26 +74,15 @@ module _ (k : Base) where
             ∙ ap (λ x. (ops_of k).mul x (coeff (ops_of k) row j)) (base-one k.p (k.s - 1) k.modulus ∙ sym one)
 
   module _ (one : k.s ≡ 1) where
-    least : k.s - 1 ≡ 0
-    least = omega arith
-
-    shape : IsBaseShape k.p 0 k.modulus
-    shape = subst (λ n. IsBaseShape k.p n k.modulus) least (shape_of k)
-
-    size_is : size_of k ≡ k.p
-    size_is =
-        let power : k.p ^ 1 ≡ k.p = power_once k.p in
-        ap (λ n. k.p ^ n) one ∙ omega arith
-
-    pub prime_below : (a : ℕ) → IsElem (ops_of k) a → a < k.p
-    prime_below a e = subst (λ n. a < n) size_is (below_size k a e)
+    modular : IsModular (ops_of k) k.p
+    modular = base_modular k one
 
     pub prime_elem : (a : ℕ) → IsElem (ops_of k) a → IsElem (prime_ops k.p) a
-    prime_elem a e = lt-ltb a k.p (prime_below a e)
+    prime_elem a e = lt-ltb a k.p (modular.low a e)
 
     read_prime : (u : List ℕ) (i : ℕ) → are_elems (ops_of k) u ≡ true → slice_index_or u i 0 < k.p
     read_prime u i e =
-        subst (λ x. x < k.p) (sym (read_zero u i)) (prime_below _ (elem_read (ops_of k) u (base_ring k).closed.zero_in e i))
+        subst (λ x. x < k.p) (sym (read_zero u i)) (modular.low _ (elem_read (ops_of k) u (base_ring k).closed.zero_in e i))
 
     pub prime_elems : (u : List ℕ) → are_elems (ops_of k) u ≡ true → are_elems (prime_ops k.p) u ≡ true
     prime_elems u e = elems_by_places (prime_ops k.p) u (λ i l. lt-ltb _ k.p (read_prime u i e))
@@ -96,10 +97,7 @@ module _ (k : Base) where
             let a = slice_index_or before (i + j) 0 in
             let b = slice_index_or row j 0 in
             let r = ops_of k in
-            let a_below : a < k.p = read_prime before (i + j) before_in in
-            let rest : (c * b) % k.p < k.p = mod-lt (c * b) (omega arith) in
-            ap (λ p. (a + (c * b) % p) % p) same
-            ∙ sym (prime_add k.p k.modulus shape a ((c * b) % k.p) a_below rest)
-            ∙ ap ((base_ops k.p 0 k.modulus).add a) (sym (prime_mul k.p k.modulus shape c b (prime_below c c_in) (read_prime row j row_in)))
-            ∙ ap (λ n. (base_ops k.p n k.modulus).add a ((base_ops k.p n k.modulus).mul c b)) (sym least)
+            let product = modular.mul_is c b (modular.low c c_in) (read_prime row j row_in) in
+            let low : r.mul c b < k.p = subst (λ m. m < k.p) (sym product) (mod-lt (c * b) (let large = listed_large k.p k.is_base.listed in omega arith)) in
+            ap (λ p. (a + (c * b) % p) % p) same ∙ ap (λ m. (a + m) % k.p) (sym product) ∙ sym (modular.add_is a (r.mul c b) (read_prime before (i + j) before_in) low)
             ∙ ap₂ r.add (read_zero before (i + j)) (ap (r.mul c) (read_zero row j))

@@ -1,4 +1,4 @@
-ghost use Rattle.std.specs.Prelude.{◌≡◌, ◌≢◌, ◌-◌, ◌+◌, ◌*◌, ◌/◌, ◌%◌, ◌<◌, ◌≤◌, ◌^◌, IfOk, MatchOption, MatchResult, length, slice_index, true, Some};
+ghost use Rattle.std.specs.Prelude.{◌≡◌, ◌≢◌, ◌-◌, ◌+◌, ◌/◌, ◌<◌, ◌≤◌, ◌^◌, IfOk, MatchOption, MatchResult, length, slice_index, true, Some};
 ghost use Rattle.ring_core.specs.Ring.{IsElem};
 ghost use Rattle.ring_core.specs.Coeffs.{are_elems};
 ghost use Rattle.ring_core.specs.Powers.{power_of};
@@ -18,6 +18,7 @@ use super::accept::{find_pair, letter_images};
 use super::fault::BaseFault;
 use super::logs::{ProductKind, Products, made_products};
 use super::prime::PrimeField;
+use super::remainders::{less_once, remainder};
 use super::row_sums::add_multiple;
 use super::size::{is_listed, size};
 use super::tables::{SumKind, Sums, code_at, code_negative, code_product, code_sum, made_sums};
@@ -65,24 +66,6 @@ fn reduced(alloc: Global, p: u32, modulus: &[u32]) -> Result<Vec<Code>, NoMemory
         list.push((*c % p) as Code)?;
     }
     Ok(list)
-}
-
-/// `x` modulo `p`, for `x` below `2 p`.
-fn less_once(x: u32, p: u32) -> u32
-    requires { x < 2 * p }
-    ensures { result ≡ x % p }
-{
-    if x < p { x } else { x - p }
-}
-
-/// `x` modulo `p` by the reciprocal of `p` in 32 bits, where the quotient is too small by one at most.
-fn remainder(x: u32, p: u32, reciprocal: u64) -> u32
-    requires large { 1 < p }
-    requires reciprocal { reciprocal ≡ 4294967296 / p }
-    ensures { result ≡ x % p }
-{
-    let quotient = ((x as u64 * reciprocal) >> 32) as u32;
-    less_once(x - quotient * p, p)
 }
 
 impl BaseField {
@@ -180,6 +163,20 @@ impl BaseField {
             a as usize,
             b as usize,
         )
+    }
+
+    /// The reciprocal of the prime in 32 bits.
+    pub(super) fn reciprocal(&self) -> u64
+        ensures { result ≡ 4294967296 / self.now.p }
+    {
+        self.reciprocal
+    }
+
+    /// How the field adds.
+    pub(super) fn sums(&self) -> &Sums
+        ensures { let k = self.now in AreSums k.p (k.s - 1) (size_of k) k.modulus result.now }
+    {
+        &self.sums
     }
 
     /// How the field multiplies.

@@ -19,6 +19,7 @@ mod places;
 mod powers;
 mod prime;
 mod products;
+mod remainders;
 mod residues;
 mod row_products;
 mod row_sums;

@@ -12,7 +12,7 @@ ghost use Rattle.field_tower.specs.steps.Logs.{steps_below, AreSteps, AreLogs, I
 ghost use Rattle.field_tower.specs.steps.Kinds.{AreProducts};
 
 use super::prime::PrimeField;
-use super::tables::{code_product, code_sum};
+use super::tables::{code_product, code_sum, top_place, without_place};
 use residue_field::Code;
 use ring_core::NoMemory;
 use std::alloc::Global;
@@ -55,23 +55,10 @@ fn multiple(
     requires before { row.now ≡ first_values a (λ b. (base_ops prime.now.p (length modulus.now - 2) modulus.now).mul b g) }
     ensures { result ≡ (base_ops prime.now.p (length modulus.now - 2) modulus.now).mul a g }
 {
-    let rest = a.saturating_sub(place);
-    if place < a && rest < a {
-        let sum = code_sum(prime, modulus, rest, place);
-        if sum as usize == a {
-            return code_sum(prime, modulus, row[rest] as usize, row[place] as usize);
-        }
+    if let Some(rest) = without_place(prime, modulus, a, place) {
+        return code_sum(prime, modulus, row[rest] as usize, row[place] as usize);
     }
     code_product(prime, modulus, a, g)
-}
-
-/// The place of the top digit of `a`, where `place` is that of the number before; that it is so serves speed alone.
-fn top_place(prime: &PrimeField, place: usize, a: usize) -> usize {
-    if place.saturating_mul(prime.p as usize) == a {
-        a
-    } else {
-        place
-    }
 }
 
 /// The products of all codes with the code `g`.

@@ -1,6 +1,7 @@
-ghost use Rattle.std.specs.Prelude.{◌≡◌, ℕ, ◌-◌, ◌+◌, ◌*◌, ◌<◌, ◌≤◌, ◌^◌, IfOk, length, slice_index};
+ghost use Rattle.std.specs.Prelude.{◌≡◌, ℕ, ◌-◌, ◌+◌, ◌*◌, ◌/◌, ◌%◌, ◌<◌, ◌≤◌, ◌^◌, IfOk, IfSome, OnOk, length, slice_index};
 ghost use Rattle.ring_core.specs.Ring.{IsElem};
-ghost use Rattle.field_tower.specs.steps.Tables.{IsRow, IsTable};
+ghost use Rattle.ring_core.specs.Coeffs.{first_values};
+ghost use Rattle.field_tower.specs.steps.Tables.{IsRest, IsRow, IsTable};
 ghost use Rattle.field_tower.specs.steps.Kinds.{AreSums};
 ghost use Rattle.residue_field.specs.Prime.{prime_ops};
 ghost use Rattle.residue_field.specs.Digits.{digit, number as number_of};
@@ -72,9 +73,6 @@ pub(crate) fn code_sum(prime: &PrimeField, modulus: &[Code], a: usize, b: usize)
     if prime.p == 2 {
         return a as Code ^ b as Code;
     }
-    if modulus.len() == 2 {
-        return ((a + b) % prime.p as usize) as Code;
-    }
     let left = residue_at(prime, modulus, a);
     let right = residue_at(prime, modulus, b);
     code_at(prime, modulus, places::add(prime, modulus, left, right))
@@ -87,12 +85,6 @@ pub(crate) fn code_negative(prime: &PrimeField, modulus: &[Code], a: usize) -> C
     requires code { a < prime.now.p ^ (length modulus.now - 1) }
     ensures { result ≡ (base_ops prime.now.p (length modulus.now - 2) modulus.now).neg a }
 {
-    if prime.p == 2 {
-        return a as Code;
-    }
-    if modulus.len() == 2 {
-        return ((prime.p as usize - a) % prime.p as usize) as Code;
-    }
     let residue = residue_at(prime, modulus, a);
     code_at(prime, modulus, places::neg(prime, modulus, residue))
 }
@@ -105,12 +97,96 @@ pub(crate) fn code_product(prime: &PrimeField, modulus: &[Code], a: usize, b: us
     requires right { b < prime.now.p ^ (length modulus.now - 1) }
     ensures { result ≡ (base_ops prime.now.p (length modulus.now - 2) modulus.now).mul a b }
 {
-    if modulus.len() == 2 {
-        return ((a * b) % prime.p as usize) as Code;
-    }
     let left = residue_at(prime, modulus, a);
     let right = residue_at(prime, modulus, b);
     code_at(prime, modulus, places::mul(prime, modulus, left, right))
+}
+
+/// The place of the top digit of `a`, where `place` is that of the number before; that it is so serves speed alone.
+pub(crate) fn top_place(prime: &PrimeField, place: usize, a: usize) -> usize {
+    if place.saturating_mul(prime.p as usize) == a {
+        a
+    } else {
+        place
+    }
+}
+
+/// The code whose sum with the code `place` is `a`, if both are below `a`. Where `place` is that of the top digit of `a`, None comes for
+/// no other `a` than zero and `place`; that it is so serves speed alone.
+pub(crate) fn without_place(
+    prime: &PrimeField,
+    modulus: &[Code],
+    a: usize,
+    place: usize,
+) -> Option<usize>
+    requires monic { IsModulus (prime_ops prime.now.p) modulus.now }
+    requires small { prime.now.p ^ (length modulus.now - 1) ≤ CODES }
+    requires code { a < prime.now.p ^ (length modulus.now - 1) }
+    ensures { IfSome result (IsRest (base_ops prime.now.p (length modulus.now - 2) modulus.now) a place) }
+{
+    let rest = a.saturating_sub(place);
+    if place < a && rest < a {
+        let sum = code_sum(prime, modulus, rest, place);
+        if sum as usize == a {
+            return Some(rest);
+        }
+    }
+    None
+}
+
+/// The sum of the codes `a` and `b`, where `table` holds those of the codes below `a`: that of `rest` and of the sum of `place` and `b`, where `a` is
+/// the sum of `rest` and `place`.
+fn sum_entry(
+    prime: &PrimeField,
+    modulus: &[Code],
+    q: usize,
+    table: &[Code],
+    a: usize,
+    b: usize,
+    place: usize,
+    rest: Option<usize>,
+) -> Code
+    requires monic { IsModulus (prime_ops prime.now.p) modulus.now }
+    requires count { q ≡ prime.now.p ^ (length modulus.now - 1) }
+    requires small { q ≤ CODES }
+    requires left { a < q }
+    requires right { b < q }
+    requires before { let add = (base_ops prime.now.p (length modulus.now - 2) modulus.now).add in
+        table.now ≡ first_values (a * q + b) (λ m. add (m / q) (m % q)) }
+    requires rest { IfSome rest (IsRest (base_ops prime.now.p (length modulus.now - 2) modulus.now) a place) }
+    ensures { result ≡ (base_ops prime.now.p (length modulus.now - 2) modulus.now).add a b }
+{
+    let Some(rest) = rest else {
+        return code_sum(prime, modulus, a, b);
+    };
+    let sum = table[place * q + b];
+    table[rest * q + sum as usize]
+}
+
+/// Adds the sums of the code `a` and all codes to `table`, which holds those of the codes below `a`.
+fn push_sums(
+    prime: &PrimeField,
+    modulus: &[Code],
+    q: usize,
+    table: &mut Vec<Code>,
+    a: usize,
+    place: usize,
+) -> Result<(), NoMemory>
+    requires monic { IsModulus (prime_ops prime.now.p) modulus.now }
+    requires count { q ≡ prime.now.p ^ (length modulus.now - 1) }
+    requires small { q ≤ CODES }
+    requires code { a < q }
+    requires before { let add = (base_ops prime.now.p (length modulus.now - 2) modulus.now).add in
+        table.old.items ≡ first_values (a * q) (λ m. add (m / q) (m % q)) }
+    ensures { let add = (base_ops prime.now.p (length modulus.now - 2) modulus.now).add in
+        OnOk result (table.new.items ≡ first_values (a * q + q) (λ m. add (m / q) (m % q))) }
+{
+    let rest = without_place(prime, modulus, a, place);
+    for b in 0..q {
+        let sum = sum_entry(prime, modulus, q, table, a, b, place, rest);
+        table.push(sum)?;
+    }
+    Ok(())
 }
 
 /// The sums of all pairs of codes.
@@ -125,9 +201,11 @@ fn sum_table(
     requires small { q ≤ CODES }
     ensures { IfOk result (λ t. IsTable q (base_ops prime.now.p (length modulus.now - 2) modulus.now).add t.items) }
 {
-    let mut table = Vec::new(alloc);
-    for m in 0..q * q {
-        table.push(code_sum(prime, modulus, m / q, m % q))?;
+    let mut table = Vec::with_capacity(alloc, q * q)?;
+    let mut place = 1;
+    for a in 0..q {
+        place = top_place(prime, place, a);
+        push_sums(prime, modulus, q, &mut table, a, place)?;
     }
     Ok(table)
 }

@@ -1,8 +1,8 @@
-use Rattle.std.proofs.Common.{◌≡◌, ◌-◌, ◌*◌, ◌^◌, suc, length, sym, ap, subst, ◌∙◌, arith}
+use Rattle.std.proofs.Common.{◌≡◌, ◌-◌, ◌*◌, length, sym, ap, subst, ◌∙◌, arith}
 use Rattle.ring_core.specs.Coeffs.{first_values}
 use Rattle.ring_core.proofs.FirstValues.{length-first_values}
 use Rattle.field_tower.specs.steps.Logs.{steps_below, AreSteps, AreLogs}
-use Rattle.field_tower.proofs.CodeForms.{shape_from_modulus, modulus_large}
+use Rattle.field_tower.proofs.CodeForms.{shape_from_modulus, size_from_modulus, modulus_large}
 use Rattle.field_tower.proofs.LogSteps.{row_steps, log_table}
 use Rattle.field_tower.proofs.logs.products_by.Goals as goal
 
@@ -10,12 +10,10 @@ pub returns_early-requires : goal.returns_early-requires
 returns_early-requires c =
     let p = c.args.prime.now.p in
     let modulus = c.args.modulus.now in
-    let degree = c.requires.monic.degree in
-    let place : length modulus - 1 ≡ suc (length modulus - 2) = omega arith in
     let large = modulus_large p modulus c.args.prime.now.listed c.requires.monic c.args.q c.requires.count in
     record {
       steps = subst AreSteps (sym c.deref.ensures.value)
-          (row_steps p (length modulus - 2) modulus (shape_from_modulus p modulus c.args.prime.now.listed c.requires.monic) c.args.q (c.requires.count ∙ ap (λ k. p ^ k) place)
+          (row_steps p (length modulus - 2) modulus (shape_from_modulus p modulus c.args.prime.now.listed c.requires.monic) c.args.q (size_from_modulus p modulus c.requires.monic c.args.q c.requires.count)
           c.args.g c.requires.factor c.in_ok-row.row.items c.in_ok-row.ensures large);
     }
 
@@ -23,12 +21,10 @@ pub walk-requires : goal.walk-requires
 walk-requires c =
     let p = c.args.prime.now.p in
     let modulus = c.args.modulus.now in
-    let degree = c.requires.monic.degree in
-    let place : length modulus - 1 ≡ suc (length modulus - 2) = omega arith in
     let large = modulus_large p modulus c.args.prime.now.listed c.requires.monic c.args.q c.requires.count in
     record {
       steps = subst AreSteps (sym c.deref-2.ensures.value)
-          (row_steps p (length modulus - 2) modulus (shape_from_modulus p modulus c.args.prime.now.listed c.requires.monic) c.args.q (c.requires.count ∙ ap (λ k. p ^ k) place)
+          (row_steps p (length modulus - 2) modulus (shape_from_modulus p modulus c.args.prime.now.listed c.requires.monic) c.args.q (size_from_modulus p modulus c.requires.monic c.args.q c.requires.count)
           c.args.g c.requires.factor c.in_ok-row.row.items c.in_ok-row.ensures large);
     }
 
@@ -55,13 +51,11 @@ returns c =
     let p = c.args.prime.now.p in
     let q = c.args.q in
     let modulus = c.args.modulus.now in
-    let degree = c.requires.monic.degree in
-    let place : length modulus - 1 ≡ suc (length modulus - 2) = omega arith in
     let large = modulus_large p modulus c.args.prime.now.listed c.requires.monic q c.requires.count in
     let powers = c.in_ok-powers.powers.items in
     let logs = c.in_ok-logs.logs.items in
     let are : AreLogs q c.deref-4.result.now c.deref-5.result.now = c.are_logs.ensures c.if-not-are_logs.false in
-    log_table p (length modulus - 2) modulus (shape_from_modulus p modulus c.args.prime.now.listed c.requires.monic) q (c.requires.count ∙ ap (λ k. p ^ k) place)
+    log_table p (length modulus - 2) modulus (shape_from_modulus p modulus c.args.prime.now.listed c.requires.monic) q (size_from_modulus p modulus c.requires.monic q c.requires.count)
     c.args.g c.requires.factor c.in_ok-row.row.items c.in_ok-row.ensures large powers logs
     (c.in_ok-powers.ensures ∙ ap (λ row. first_values (4 * q) (steps_below (2 * q - 2) row)) c.deref-2.ensures.value)
     (subst (λ l. AreLogs q powers l) c.deref-5.ensures.value (subst (λ t. AreLogs q t c.deref-5.result.now) c.deref-4.ensures.value are))

@@ -5,7 +5,6 @@ use Rattle.residue_field.specs.Digits.{digit}
 use Rattle.residue_field.specs.Base.{base_ops}
 use Rattle.field_tower.specs.steps.Places.{stored, stored_ops}
 use Rattle.field_tower.proofs.CodeDigits.{code_made}
-use Rattle.field_tower.proofs.CodeForms.{neg-bits, neg-mod}
 use Rattle.field_tower.proofs.tables.code_negative.Goals as goal
 
 pub returns : goal.returns
@@ -16,9 +15,3 @@ returns c =
     c.code_at.ensures
     ∙ code_made p c.args.prime.now.listed c.args.modulus.now c.requires.monic c.neg.result (λ (i : ℕ). r.neg (coeff r c.residue_at-residue.result.0 i)) (λ i. r.neg (digit p c.args.a i)) c.neg.ensures.value
     (λ i. ap r.neg (c.residue_at-residue.ensures.digits i))
-
-pub returns-then-prime-eq2 : goal.returns-then-prime-eq2
-returns-then-prime-eq2 c = neg-bits c.args.prime.now.p c.args.modulus.now c.args.prime.now.listed c.requires.monic c.if-prime-eq2.true c.args.a c.requires.code
-
-pub returns-then-modulus-eq2 : goal.returns-then-modulus-eq2
-returns-then-modulus-eq2 c = neg-mod c.args.prime.now.p c.args.modulus.now c.args.prime.now.listed c.requires.monic c.if-modulus-eq2.true c.args.a c.requires.code

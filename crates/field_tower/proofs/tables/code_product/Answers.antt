@@ -7,7 +7,6 @@ use Rattle.residue_field.specs.Residue.{residue, product}
 use Rattle.residue_field.specs.Base.{base_ops}
 use Rattle.field_tower.specs.steps.Places.{stored, stored_ops}
 use Rattle.field_tower.proofs.CodeDigits.{code_made}
-use Rattle.field_tower.proofs.CodeForms.{mul-mod}
 use Rattle.field_tower.proofs.tables.code_product.Goals as goal
 
 pub returns : goal.returns
@@ -22,6 +21,3 @@ returns c =
     ∙ code_made p c.args.prime.now.listed modulus c.requires.monic c.mul.result
     (result (coeff r c.residue_at-left.result.0) (coeff r c.residue_at-right.result.0)) (result (digit p c.args.a) (digit p c.args.b)) c.mul.ensures.value
     (λ i. ap (λ g. g i) (ap₂ result (fun_ext c.residue_at-left.ensures.digits) (fun_ext c.residue_at-right.ensures.digits)))
-
-pub returns-then-modulus-eq2 : goal.returns-then-modulus-eq2
-returns-then-modulus-eq2 c = mul-mod c.args.prime.now.p c.args.modulus.now c.args.prime.now.listed c.requires.monic c.if-modulus-eq2.true c.args.a c.args.b c.requires.left c.requires.right

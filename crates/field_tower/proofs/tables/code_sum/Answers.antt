@@ -5,7 +5,7 @@ use Rattle.residue_field.specs.Digits.{digit}
 use Rattle.residue_field.specs.Base.{base_ops}
 use Rattle.field_tower.specs.steps.Places.{stored, stored_ops}
 use Rattle.field_tower.proofs.CodeDigits.{code_made}
-use Rattle.field_tower.proofs.CodeForms.{add-bits, add-mod}
+use Rattle.field_tower.proofs.CodeForms.{add-bits}
 use Rattle.field_tower.proofs.tables.code_sum.Goals as goal
 
 pub returns : goal.returns
@@ -19,6 +19,3 @@ returns c =
 
 pub returns-then-prime-eq2 : goal.returns-then-prime-eq2
 returns-then-prime-eq2 c = add-bits c.args.prime.now.p c.args.modulus.now c.args.prime.now.listed c.requires.monic c.if-prime-eq2.true c.args.a c.args.b c.requires.left c.requires.right
-
-pub returns-then-modulus-eq2 : goal.returns-then-modulus-eq2
-returns-then-modulus-eq2 c = add-mod c.args.prime.now.p c.args.modulus.now c.args.prime.now.listed c.requires.monic c.if-modulus-eq2.true c.args.a c.args.b c.requires.left c.requires.right

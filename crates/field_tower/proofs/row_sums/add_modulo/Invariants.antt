@@ -2,7 +2,7 @@ use Rattle.std.proofs.Common.{◌≡◌, ◌+◌, true}
 use Rattle.ring_core.specs.Coeffs.{coeff, are_elems}
 use Rattle.ring_core.specs.Written.{IsWritten}
 use Rattle.residue_field.specs.Prime.{prime_ops}
-use Rattle.field_tower.proofs.row_sums.add_wide.Given as goal
+use Rattle.field_tower.proofs.row_sums.add_modulo.Given as goal
 
 abbrev pub invariant-loop-j : goal.invariant-loop-j
 invariant-loop-j l =

@@ -1,6 +1,6 @@
 use Rattle.std.proofs.Common.{◌∙◌, arith}
 use Rattle.field_tower.proofs.Reciprocal.{quotient_low, quotient_high, remainder_same}
-use Rattle.field_tower.proofs.base.remainder.Goals as goal
+use Rattle.field_tower.proofs.remainders.remainder.Goals as goal
 
 pub overflow_sub-x : goal.overflow_sub-x
 overflow_sub-x c = quotient_low 4294967296 c.args.p c.args.x c.args.reciprocal (omega arith) c.requires.reciprocal (omega arith)
