@@ -5,6 +5,7 @@
 #![tactic(auto)]
 
 mod accept;
+mod algebra;
 mod base;
 mod bits;
 mod codes;
@@ -19,12 +20,15 @@ mod places;
 mod powers;
 mod prime;
 mod products;
+mod residue_ring;
 mod residues;
 mod row_sums;
 mod size;
 mod tables;
 mod tower;
 
+pub use accept::{find_pair, unit_powers};
+pub use algebra::Algebra;
 pub use base::BaseField;
 pub use fault::{BaseFault, TowerFault};
 pub use prime::PrimeField;

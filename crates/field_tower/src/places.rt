@@ -1,10 +1,10 @@
 ghost use Rattle.std.specs.Prelude.{◌≡◌, ℕ, ◌-◌, ◌*◌, ◌^◌, ◌≤◌, ◌<◌, List, length, drop, cond, nat_eq, true};
 ghost use Rattle.ring_core.specs.Ring.{IsElem};
 ghost use Rattle.ring_core.specs.Coeffs.{coeff, are_elems, same_lists};
-ghost use Rattle.ring_core.specs.Powers.{power_of};
 ghost use Rattle.residue_field.specs.declared.TheConstants.{WIDTH};
 ghost use Rattle.residue_field.specs.Residue.{constant_at, residue_letter};
 ghost use Rattle.residue_field.specs.TopElem.{are_zeros, top_places};
+ghost use Rattle.residue_field.specs.steps.Stored.{residue_unit};
 ghost use Rattle.field_tower.specs.steps.Places.{IsModulus, stored, stored_ops};
 
 use super::residues::multiply;
@@ -58,6 +58,17 @@ pub(crate) fn constant<F: Field<Elem = Code>>(field: &F, c: Code) -> TopElem
     let mut places = zeros(field);
     places[0] = c;
     TopElem(places)
+}
+
+/// The residue of the power `j` of the letter, modulo a polynomial of degree `n`.
+pub(crate) fn unit<F: Field<Elem = Code>>(field: &F, n: usize, j: usize) -> TopElem
+    requires place { j < n }
+    requires room { n ≤ WIDTH }
+    ensures { result ≡ residue_unit (F.ops field.now) (top_places (F.ops field.now) (n - 1)) j }
+{
+    let mut list = zeros(field);
+    list[j] = field.one();
+    TopElem(list)
 }
 
 /// Whether the residue `a` is zero.
@@ -140,34 +151,6 @@ pub(crate) fn mul<F: Field<Elem = Code>>(
     let mut places = zeros(field);
     multiply(field, modulus, &a.0, &b.0, &mut places);
     TopElem(places)
-}
-
-/// The residue `a` multiplied `k` times, one for `k = 0`: by squares, at most two products for each
-/// binary digit of `k`.
-pub(crate) fn power<F: Field<Elem = Code>>(
-    field: &F,
-    modulus: &[Code],
-    a: TopElem,
-    k: u32,
-) -> TopElem
-    requires monic { IsModulus (F.ops field.now) modulus.now }
-    requires elem { IsElem (stored_ops (F.ops field.now) modulus.now) a }
-    ensures value { result ≡ power_of (stored_ops (F.ops field.now) modulus.now) a k }
-    ensures elem { IsElem (stored_ops (F.ops field.now) modulus.now) result }
-{
-    if k == 0 {
-        return one(field);
-    }
-    if k == 1 {
-        return a;
-    }
-    let half = power(field, modulus, a, k / 2);
-    let square = mul(field, modulus, half, half);
-    if k % 2 == 0 {
-        square
-    } else {
-        mul(field, modulus, square, a)
-    }
 }
 
 /// The residue of the letter. Modulo a polynomial of degree 1 it is minus the constant of the modulus.

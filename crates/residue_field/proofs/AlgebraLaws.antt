@@ -129,7 +129,7 @@ module _ {E T : Type 0} (r : RingOps E) (h : IsRing r) (t : RingOps T) (c : Coor
   pub unit_in : (j : ℕ) → IsElem t (unit_of r c j)
   unit_in j = p.of_coords_in _ (unit_coord_in j)
 
-  coord_unit : (j i : ℕ) → i < c.dimension → c.coord (unit_of r c j) i ≡ cond (nat_eq j i) r.one r.zero
+  pub coord_unit : (j i : ℕ) → i < c.dimension → c.coord (unit_of r c j) i ≡ cond (nat_eq j i) r.one r.zero
   coord_unit j i l = p.coord_of_coords _ i (unit_coord_in j) l
 
   -- the coordinates of x below k

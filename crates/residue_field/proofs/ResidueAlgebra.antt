@@ -1,6 +1,6 @@
 -- The residues modulo a monic polynomial are an algebra over the constants: their coordinates are the
 -- coefficients.
-use Rattle.std.proofs.Common.{◌≡◌, ℕ, suc, ◌+◌, ◌-◌, ◌<◌, ◌≤◌, true, List, length, refl, ap, ◌∙◌, arith}
+use Rattle.std.proofs.Common.{◌≡◌, ℕ, suc, ◌+◌, ◌-◌, ◌<◌, ◌≤◌, true, cond, nat_eq, List, length, refl, ap, ◌∙◌, arith}
 use Rattle.ring_core.specs.Ring.{RingOps, IsElem, IsRing, IsCommutative}
 use Rattle.ring_core.specs.Coeffs.{coeff, are_elems}
 use Rattle.ring_core.specs.Powers.{power_of}
@@ -13,11 +13,11 @@ use Rattle.residue_field.specs.declared.TheConstants.{WIDTH}
 use Rattle.residue_field.specs.Residue.{constant_at, Places, residue_ops}
 use Rattle.residue_field.specs.Algebra.{IsAlgebra, residue_coords}
 use Rattle.residue_field.specs.TopElem.{top_places}
-use Rattle.residue_field.specs.steps.Stored.{IsMonic, IsPlaces}
+use Rattle.residue_field.specs.steps.Stored.{residue_unit, IsMonic, IsPlaces}
 use Rattle.residue_field.proofs.ResidueRing.{residue_ring, residue_commutes}
 use Rattle.residue_field.proofs.Embedded.{embed_on, embed-in, place-embed, place-add, place-scale}
 use Rattle.residue_field.proofs.Counted.{residue_coordinates}
-use Rattle.residue_field.proofs.AlgebraLaws.{algebra_embedding, algebra_accepted}
+use Rattle.residue_field.proofs.AlgebraLaws.{unit_in, coord_unit, algebra_embedding, algebra_accepted}
 use Rattle.residue_field.proofs.TopPlaces.{top_stores}
 
 module _ {E T : Type 0} (r : RingOps E) (h : IsRing r) (commutes : IsCommutative r) (n : ℕ) (f : ℕ → E) (m : IsMonic r n f) (c : Places E T) (p : IsPlaces r n c) where
@@ -33,6 +33,12 @@ module _ {E T : Type 0} (r : RingOps E) (h : IsRing r) (commutes : IsCommutative
     embed_one = refl;
     coord_embed = λ b i e l. place-embed r h commutes n f m c p b e i l;
   }
+
+  pub unit-in : (j : ℕ) → c.is_elem (residue_unit r c j) ≡ true
+  unit-in = unit_in r h (residue_ops r n f c) (residue_coords r n c) residue_algebra
+
+  pub place-unit : (j i : ℕ) → i < suc n → c.place (residue_unit r c j) i ≡ cond (nat_eq j i) r.one r.zero
+  place-unit = coord_unit r h (residue_ops r n f c) (residue_coords r n c) residue_algebra
 
   -- the constants within their residues: a one to one map of rings
   pub residue_embedding : IsEmbedding r (residue_ops r n f c) (embed_on r h commutes n f m c p)

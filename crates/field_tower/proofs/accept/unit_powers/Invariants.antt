@@ -1,7 +1,9 @@
 use Rattle.std.proofs.Common.{◌≡◌}
 use Rattle.ring_core.specs.Coeffs.{first_values}
-use Rattle.field_tower.specs.steps.Kernel.{letter_image}
-use Rattle.field_tower.proofs.accept.letter_images.Given as goal
+use Rattle.field_tower.specs.UnitPowers.{unit_power}
+use Rattle.field_tower.proofs.accept.unit_powers.Given as goal
 
 abbrev pub invariant-loop-j : goal.invariant-loop-j
-invariant-loop-j g l = l.images.items ≡ first_values l.j (letter_image (g.F.Field.ops l.field) l.q l.modulus)
+invariant-loop-j g l =
+    let r = g.A.Constants.Field.ops (g.A.Algebra.constants_of l.algebra) in
+    l.images.items ≡ first_values l.j (unit_power r (g.A.Algebra.ops l.algebra) (g.A.Algebra.coords_of l.algebra) l.q)

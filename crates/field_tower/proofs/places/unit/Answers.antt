@@ -4,7 +4,7 @@ use Rattle.residue_field.specs.declared.TheConstants.{WIDTH}
 use Rattle.field_tower.specs.steps.Places.{stored}
 use Rattle.field_tower.proofs.Writes.{written, unwritten}
 use Rattle.field_tower.proofs.Stored.{stored_from}
-use Rattle.field_tower.proofs.accept.unit.Goals as goal
+use Rattle.field_tower.proofs.places.unit.Goals as goal
 
 pub returns : goal.returns
 unfolding stored
