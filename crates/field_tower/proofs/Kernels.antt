@@ -1,9 +1,8 @@
 -- The kernel of a linear map of an algebra, from the relations of the rows of its coordinates.
-use Rattle.std.proofs.Common.{◌≡◌, ℕ, ◌<◌, ◌≤◌, inl, inr, true, List, length, sym, ap, ap₂, subst, ◌∙◌, arith, eq-eqb, [], Option, Some, None, MatchOption, Result, Ok, Err, IfOk}
+use Rattle.std.proofs.Common.{◌≡◌, ℕ, ◌<◌, ◌≤◌, inl, inr, true, List, length, sym, ap, ap₂, subst, ◌∙◌, eq-eqb, [], Option, Some, None, MatchOption, Result, Ok, Err, IfOk}
 use Rattle.std.proofs.lemmas.Bool.{and_from, cases_lt}
 use Rattle.ring_core.specs.Ring.{RingOps, IsElem}
 use Rattle.ring_core.specs.Coeffs.{coeff, sum_below, first_values}
-use Rattle.ring_core.specs.Powers.{power_of}
 use Rattle.ring_core.proofs.Carrier.{elements, mul_zero}
 use Rattle.ring_core.proofs.Coefficients.{coeff_past, elem_read, elems-first_values}
 use Rattle.ring_core.proofs.Twist.{sum_of_zeros, sum_same}

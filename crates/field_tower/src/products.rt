@@ -9,8 +9,10 @@ ghost use Rattle.field_tower.specs.steps.Places.{IsModulus, IsStored, stored, st
 ghost use Rattle.field_tower.specs.steps.Lanes.{letter_row};
 ghost use Rattle.field_tower.specs.steps.Images.{image_at, combined_images};
 
+use super::algebra::Algebra;
 use super::base::BaseField;
-use super::{bits, frobenius, modular, places};
+use super::residue_ring::Residues;
+use super::{bits, frobenius, modular};
 use residue_field::{Code, TopElem};
 
 /// The product of residues, where `letters` holds the residues of the powers of the letter from the degree of the
@@ -33,7 +35,11 @@ pub(crate) fn mul(
     } else if base.s() == 1 {
         modular::mul(base, modulus, letters, a, b)
     } else {
-        places::mul(base, modulus, a, b)
+        let ring = Residues {
+            field: base,
+            modulus,
+        };
+        ring.mul(a, b)
     }
 }
 

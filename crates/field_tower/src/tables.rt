@@ -8,9 +8,10 @@ ghost use Rattle.residue_field.specs.Base.{base_ops};
 ghost use Rattle.field_tower.specs.declared.size.TheConstants.{CODES};
 ghost use Rattle.field_tower.specs.steps.Places.{IsModulus, stored_ops};
 
+use super::algebra::Algebra;
 use super::codes::{digits, number};
-use super::places;
 use super::prime::PrimeField;
+use super::residue_ring::Residues;
 use residue_field::{Code, TopElem};
 use ring_core::NoMemory;
 use std::alloc::Global;
@@ -77,7 +78,11 @@ pub(crate) fn code_sum(prime: &PrimeField, modulus: &[Code], a: usize, b: usize)
     }
     let left = residue_at(prime, modulus, a);
     let right = residue_at(prime, modulus, b);
-    code_at(prime, modulus, places::add(prime, modulus, left, right))
+    let ring = Residues {
+        field: prime,
+        modulus,
+    };
+    code_at(prime, modulus, ring.add(left, right))
 }
 
 /// The negative of the code `a`.
@@ -94,7 +99,11 @@ pub(crate) fn code_negative(prime: &PrimeField, modulus: &[Code], a: usize) -> C
         return ((prime.p as usize - a) % prime.p as usize) as Code;
     }
     let residue = residue_at(prime, modulus, a);
-    code_at(prime, modulus, places::neg(prime, modulus, residue))
+    let ring = Residues {
+        field: prime,
+        modulus,
+    };
+    code_at(prime, modulus, ring.neg(residue))
 }
 
 /// The product of the codes `a` and `b`.
@@ -110,7 +119,11 @@ pub(crate) fn code_product(prime: &PrimeField, modulus: &[Code], a: usize, b: us
     }
     let left = residue_at(prime, modulus, a);
     let right = residue_at(prime, modulus, b);
-    code_at(prime, modulus, places::mul(prime, modulus, left, right))
+    let ring = Residues {
+        field: prime,
+        modulus,
+    };
+    code_at(prime, modulus, ring.mul(left, right))
 }
 
 /// The sums of all pairs of codes.

@@ -16,6 +16,7 @@ ghost use Rattle.field_tower.specs.steps.Norm.{conjugate_product};
 ghost use Rattle.minimal_poly.specs.MinPoly.{IsMinPoly};
 
 use super::accept::find_pair;
+use super::algebra::Algebra;
 use super::base::BaseField;
 use super::fault::TowerFault;
 use super::frobenius::images;
@@ -195,7 +196,11 @@ impl Tower {
     pub fn letter(&self) -> TopElem
         ensures { result ≡ letter_of self.now }
     {
-        places::letter(&self.base, &self.modulus)
+        let ring = Residues {
+            field: &self.base,
+            modulus: &self.modulus,
+        };
+        ring.letter()
     }
 }
 
@@ -223,11 +228,19 @@ impl Field for Tower {
     }
 
     fn add(&self, a: TopElem, b: TopElem) -> TopElem {
-        places::add(&self.base, &self.modulus, a, b)
+        let ring = Residues {
+            field: &self.base,
+            modulus: &self.modulus,
+        };
+        ring.add(a, b)
     }
 
     fn neg(&self, a: TopElem) -> TopElem {
-        places::neg(&self.base, &self.modulus, a)
+        let ring = Residues {
+            field: &self.base,
+            modulus: &self.modulus,
+        };
+        ring.neg(a)
     }
 
     fn mul(&self, a: TopElem, b: TopElem) -> TopElem {

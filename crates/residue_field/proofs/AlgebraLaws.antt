@@ -1,8 +1,8 @@
 -- What holds of a commutative ring with coordinates over a field of constants: the constants within it,
 -- linear maps by coordinates, how many elements there are, and, over q constants, the power by q.
-use Rattle.std.proofs.Common.{◌≡◌, inl, inr, ℕ, zero, suc, ◌+◌, ◌<◌, ◌≤◌, ◌^◌, true, cond, nat_lt, nat_eq, sym, refl, ap, ap₂, ◌∙◌, arith, lt-ltb, le-ltb, eq-eqb, ne_eqb}
+use Rattle.std.proofs.Common.{◌≡◌, inl, inr, ℕ, zero, suc, ◌<◌, ◌≤◌, ◌^◌, cond, nat_lt, nat_eq, sym, refl, ap, ap₂, ◌∙◌, arith, lt-ltb, le-ltb, eq-eqb, ne_eqb}
 use Rattle.std.proofs.lemmas.Bool.{cond-true, cond-false, cond_both, cases_order}
-use Rattle.ring_core.specs.Ring.{RingOps, IsElem, IsRing, IsCommutative}
+use Rattle.ring_core.specs.Ring.{RingOps, IsElem, IsRing}
 use Rattle.ring_core.specs.Coeffs.{sum_below}
 use Rattle.ring_core.specs.Powers.{power_of}
 use Rattle.ring_core.proofs.Carrier.{Element, elements, same_element, add_exchange, neg_sum, mul_neg, mul_zero, add_zero}

@@ -1,5 +1,5 @@
 -- The ring of stored residues by coordinates.
-use Rattle.std.specs.Prelude.{◌≡◌, ℕ, ◌-◌, List, length}
+use Rattle.std.specs.Prelude.{ℕ, ◌-◌, List, length}
 use Rattle.ring_core.specs.Ring.{RingOps, IsRing, IsCommutative}
 use Rattle.residue_field.specs.declared.TopElem.{TopElem}
 use Rattle.residue_field.specs.Algebra.{Coordinates, IsAlgebra, residue_coords}

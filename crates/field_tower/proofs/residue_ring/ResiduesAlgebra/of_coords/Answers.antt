@@ -1,4 +1,4 @@
-use Rattle.std.proofs.Common.{◌≡◌, ◌-◌, ◌+◌, ◌<◌, ◌≤◌, suc, length, sym, ap, subst, ◌∙◌, arith}
+use Rattle.std.proofs.Common.{◌≡◌, ◌-◌, ◌+◌, ◌≤◌, suc, length, sym, ap, subst, ◌∙◌, arith}
 use Rattle.ring_core.specs.Ring.{IsElem}
 use Rattle.ring_core.specs.Coeffs.{coeff}
 use Rattle.ring_core.proofs.Coefficients.{elem_read}
