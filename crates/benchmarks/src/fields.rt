@@ -35,6 +35,9 @@ pub(super) const LETTER: &[u32] = &[0, 1];
 /// `a^8 + a^4 + a^3 + a + 1`: over two elements there are 256 residues.
 pub(super) const BYTES: &[u32] = &[1, 1, 0, 1, 1, 0, 0, 0, 1];
 
+/// `a^2 + 1`: over three elements there are nine residues.
+pub(super) const NINE: &[u32] = &[1, 0, 1];
+
 /// `a^16 + a^5 + a^3 + a + 1`.
 const WORDS: &[u32] = &[1, 1, 0, 1, 0, 1, 0, 0, 0, 0, 0, 0, 0, 0, 0, 0, 1];
 
@@ -59,8 +62,8 @@ pub(super) const BYTES_OF_TWELVE: FieldData = FieldData {
     powers: &[12, 3, 1],
 };
 
-/// Three elements, 251 and 65,536.
-const OTHERS: [FieldData; 3] = [
+/// Three elements, 251, nine and 65,536.
+const OTHERS: [FieldData; 4] = [
     FieldData {
         p: 3,
         modulus: LETTER,
@@ -70,6 +73,11 @@ const OTHERS: [FieldData; 3] = [
         p: 251,
         modulus: LETTER,
         powers: &[12, 1],
+    },
+    FieldData {
+        p: 3,
+        modulus: NINE,
+        powers: &[12, 4],
     },
     FieldData {
         p: 2,
@@ -279,7 +287,7 @@ fn print_times(rt: &HostRuntime, data: &FieldData) -> io::Result<()> {
     )
 }
 
-/// Measures fields of 2, 3, 251, 256 and 65,536 elements and of degree 8, 12 and 16.
+/// Measures fields over 2, 3, 9, 251, 256 and 65,536 elements, of degree 8, 12 and 16.
 pub(super) fn print_all(rt: &HostRuntime) -> io::Result<()> {
     print_times(rt, &SMALL)?;
     print_times(rt, &BITS_OF_TWELVE)?;

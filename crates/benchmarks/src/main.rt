@@ -1,7 +1,7 @@
 //! How long the kernel of a linear system takes, and how many products of the field it makes; what the
 //! calls of fields take; what the least relation of Frobenius, the height and an image of a module take; how many row
 //! operations the relations of rows of polynomials take; and how long the reader of scripts takes.
-//! With the word `linear` three large systems are measured, with `fields` the fields, with `frobenius` four
+//! With the word `linear` four large systems are measured, with `fields` the fields, with `frobenius` four
 //! modules, with `modules` one of rank 8, with `reductions` the rows of which full lists are made, with `parse` the
 //! script on standard input; with no word small systems and products, whose counts are compared with a bound.
 #![tactic(auto)]
@@ -17,7 +17,7 @@ mod reductions;
 mod scripts;
 
 use field_tower::{BaseField, multiply};
-use fields::{BYTES, LETTER, degree};
+use fields::{BYTES, LETTER, NINE, degree};
 use fq_linear::{Rows, kernel};
 use random::{Random, Shape, random_rows};
 use ring_core::lists::all_elems;
@@ -136,15 +136,17 @@ fn print(rt: &HostRuntime, name: &str, cost: &Cost) -> io::Result<()> {
     Ok(())
 }
 
-/// Measures a dense system over 256 elements, and sparse ones over two and over 251.
+/// Measures dense systems over 256 elements and over nine, and sparse ones over two and over 251.
 fn large(rt: &HostRuntime) -> io::Result<bool> {
-    let dense = cost_of(rt, 2, BYTES, [800, 900, 900])?;
-    print(rt, "dense, 256 elements", &dense)?;
+    let bytes = cost_of(rt, 2, BYTES, [800, 900, 900])?;
+    print(rt, "dense, 256 elements", &bytes)?;
+    let nine = cost_of(rt, 3, NINE, [800, 900, 900])?;
+    print(rt, "dense, 9 elements", &nine)?;
     let sparse = cost_of(rt, 2, LETTER, [520, 584, 40])?;
     print(rt, "sparse, 2 elements", &sparse)?;
     let numbers = cost_of(rt, 251, LETTER, [520, 584, 40])?;
     print(rt, "sparse, 251 elements", &numbers)?;
-    Ok(dense.is_within() && sparse.is_within() && numbers.is_within())
+    Ok(bytes.is_within() && nine.is_within() && sparse.is_within() && numbers.is_within())
 }
 
 /// Compares the products of small systems with the bound, and prints a line that is always the same

@@ -1,6 +1,5 @@
 -- The elements of a base field as numbers.
-use native.Mathlib.Nat.{pow-le-pow_right, pow-zero}
-use Rattle.std.proofs.Common.{◌≡◌, ◌≢◌, ℕ, suc, ◌+◌, ◌-◌, ◌*◌, ◌^◌, ◌<◌, ◌≤◌, nat_eq, nat_lt, List, Some, None, sym, refl, ap, ◌∙◌, arith, ltb-true, eq-eqb, ne_eqb, pow-suc}
+use Rattle.std.proofs.Common.{◌≡◌, ◌≢◌, ℕ, suc, ◌+◌, ◌-◌, ◌*◌, ◌^◌, ◌<◌, ◌≤◌, nat_eq, nat_lt, List, Some, None, sym, refl, ap, ◌∙◌, arith, ltb-true, eq-eqb, ne_eqb}
 use Rattle.std.proofs.lemmas.Bool.{cond-true, cond-false}
 use Rattle.ring_core.specs.Ring.{IsElem}
 use Rattle.ring_core.specs.Powers.{power_of}
@@ -8,6 +7,7 @@ use Rattle.residue_field.specs.Base.{Base, base_ops, ops_of, size_of, inverse_of
 use Rattle.residue_field.proofs.DigitLaws.{number-zeros}
 use Rattle.residue_field.proofs.Listed.{listed_large}
 use Rattle.residue_field.proofs.BaseLaws.{degree_of}
+use Rattle.field_tower.proofs.PowerSteps.{power_large}
 
 module _ (p n : ℕ) (modulus : List ℕ) where
   pub base-zero : (base_ops p n modulus).zero ≡ 0
@@ -34,8 +34,7 @@ size_large k =
     let large : 1 < k.p = listed_large k.p k.is_base.listed in
     let positive : 0 < k.p = omega arith in
     let degree : 1 ≤ k.s = k.is_base.positive in
-    let bound : k.p ^ 1 ≤ size_of k = pow-le-pow_right positive degree in
-    let one : k.p ^ 1 ≡ 1 * k.p = pow-suc k.p 0 ∙ ap (λ x. x * k.p) (pow-zero k.p) in
+    let bound : k.p ≤ size_of k = power_large k.p k.s positive degree in
     omega arith
 
 pub inverse_none : (k : Base) (a : ℕ) → a ≡ 0 → None ≡ inverse_of k a

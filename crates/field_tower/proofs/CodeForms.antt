@@ -1,12 +1,12 @@
 -- Sums, negatives and products of codes that need no digits.
-use native.Mathlib.Nat.{pow-le-pow_right, pow-zero}
-use Rattle.std.proofs.Common.{◌≡◌, ℕ, suc, ◌+◌, ◌-◌, ◌*◌, ◌%◌, ◌^◌, ◌<◌, ◌≤◌, true, List, length, slice_index, bit_xor, sym, ap, ap₂, subst, ◌∙◌, arith, pow-suc}
+use Rattle.std.proofs.Common.{◌≡◌, ℕ, suc, ◌+◌, ◌-◌, ◌*◌, ◌%◌, ◌^◌, ◌<◌, ◌≤◌, true, List, length, slice_index, bit_xor, sym, ap, ap₂, subst, ◌∙◌, arith}
 use Rattle.residue_field.specs.Prime.{is_listed, prime_ops}
 use Rattle.residue_field.specs.Base.{base_ops}
 use Rattle.residue_field.proofs.BaseLaws.{IsBaseShape}
 use Rattle.residue_field.proofs.Listed.{listed_large}
 use Rattle.residue_field.proofs.BaseForms.{prime_add, prime_mul, prime_neg, add-xor, neg-two}
 use Rattle.field_tower.specs.steps.Places.{IsModulus}
+use Rattle.field_tower.proofs.PowerSteps.{power_once, power_large}
 
 pub shape_from_modulus : (p : ℕ) (modulus : List ℕ) → is_listed p ≡ true → IsModulus (prime_ops p) modulus → IsBaseShape p (length modulus - 2) modulus
 shape_from_modulus p modulus listed monic =
@@ -20,8 +20,7 @@ modulus_large p modulus listed monic q count =
     let positive : 0 < p = omega arith in
     let degree : 2 ≤ length modulus = monic.degree in
     let room : 1 ≤ length modulus - 1 = omega arith in
-    let bound : p ^ 1 ≤ p ^ (length modulus - 1) = pow-le-pow_right positive room in
-    let one : p ^ 1 ≡ 1 * p = pow-suc p 0 ∙ ap (λ x. x * p) (pow-zero p) in
+    let bound : p ≤ p ^ (length modulus - 1) = power_large p (length modulus - 1) positive room in
     omega arith
 
 module _ (p : ℕ) (modulus : List ℕ) (listed : is_listed p ≡ true) (monic : IsModulus (prime_ops p) modulus) where
@@ -54,7 +53,7 @@ module _ (p : ℕ) (modulus : List ℕ) (listed : is_listed p ≡ true) (monic :
     pub below_prime : (a : ℕ) → a < p ^ (length modulus - 1) → a < p
     below_prime a l =
         let degree : length modulus - 1 ≡ 1 = omega arith in
-        let power : p ^ 1 ≡ 1 * p = pow-suc p 0 ∙ ap (λ x. x * p) (pow-zero p) in
+        let power : p ^ 1 ≡ p = power_once p in
         let low : a < p ^ 1 = subst (λ m. a < p ^ m) degree l in
         omega arith
 

@@ -1,6 +1,5 @@
 -- Pairs of codes, from pairs of residues in places.
-use native.Mathlib.Nat.{pow-le-pow_right, pow-zero}
-use Rattle.std.proofs.Common.{◌≡◌, ℕ, suc, ◌-◌, ◌*◌, ◌^◌, ◌<◌, ◌≤◌, true, List, length, slice_index, ap, sym, subst, ◌∙◌, arith, pow-suc}
+use Rattle.std.proofs.Common.{◌≡◌, ℕ, suc, ◌-◌, ◌^◌, ◌<◌, ◌≤◌, true, List, length, slice_index, ap, sym, subst, ◌∙◌, arith}
 use Rattle.ring_core.specs.Ring.{IsRing}
 use Rattle.ring_core.specs.Coeffs.{coeff}
 use Rattle.finite_ring.specs.Finite.{HasNoPair}
@@ -18,6 +17,7 @@ use Rattle.field_tower.specs.declared.size.TheConstants.{CODES}
 use Rattle.field_tower.specs.steps.Places.{IsModulus, stored_ops}
 use Rattle.field_tower.specs.Constants.{IsFieldOfCodes}
 use Rattle.field_tower.specs.Pairs.{IsPair}
+use Rattle.field_tower.proofs.PowerSteps.{power_large}
 use Rattle.field_tower.proofs.Stored.{modulus_monic, stores_of}
 use Rattle.field_tower.proofs.ConstantValues.{prime_codes}
 
@@ -42,8 +42,7 @@ module _ (p : ℕ) (listed : is_listed p ≡ true) (modulus : List ℕ) (monic :
       let degree : 2 ≤ length modulus = monic.degree in
       let positive : 0 < p = omega (arith, large) in
       let some : 1 ≤ length modulus - 1 = omega arith in
-      let once : p ^ 1 ≤ p ^ (length modulus - 1) = pow-le-pow_right positive some in
-      let one : p ^ 1 ≡ 1 * p = pow-suc p 0 ∙ ap (λ x. x * p) (pow-zero p) in
+      let bound : p ≤ p ^ (length modulus - 1) = power_large p (length modulus - 1) positive some in
       prime_codes p listed (omega arith)
 
   pub no_code_pair : HasNoPair (stored_ops (prime_ops p) modulus) → HasNoPair (base_ops p d modulus)

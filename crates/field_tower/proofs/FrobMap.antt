@@ -1,6 +1,5 @@
 -- The Frobenius of a top field from the images of the powers of the letter.
-use native.Mathlib.Nat.{pow-zero}
-use Rattle.std.proofs.Common.{◌≡◌, ℕ, suc, ◌+◌, ◌-◌, ◌*◌, ◌/◌, ◌%◌, ◌^◌, ◌<◌, ◌≤◌, nat_eq, true, List, length, slice_index, slice_index_or, sym, ap, ap₂, subst, ◌∙◌, arith, eqb-true, pow-suc, mul-le-mul_right}
+use Rattle.std.proofs.Common.{◌≡◌, ℕ, suc, ◌+◌, ◌-◌, ◌*◌, ◌/◌, ◌%◌, ◌^◌, ◌<◌, ◌≤◌, nat_eq, true, List, length, slice_index, slice_index_or, sym, ap, ap₂, subst, ◌∙◌, arith, eqb-true, mul-le-mul_right}
 use Rattle.std.proofs.Math.Nat.{mod-eq_of_lt, div-eq_of_lt, add-div_right, add-mod_right}
 use Rattle.std.proofs.lemmas.Bool.{and_parts, cond_both}
 use Rattle.std.proofs.lemmas.Nat.{div-mul-add, mod-mul-add}
@@ -23,7 +22,7 @@ use Rattle.field_tower.specs.steps.Places.{IsStored, stored, stored_ops}
 use Rattle.field_tower.specs.steps.LetterPowers.{letter_power, letter_image}
 use Rattle.field_tower.specs.steps.Images.{frob_image, image_at, combined_images}
 use Rattle.field_tower.proofs.Stored.{stored_from}
-use Rattle.field_tower.proofs.PowerSteps.{power_none, power_size}
+use Rattle.field_tower.proofs.PowerSteps.{power_none, power_once, power_size}
 use Rattle.field_tower.proofs.BaseValues.{base-zero}
 use Rattle.field_tower.proofs.TopValues.{top_elems, stored-top}
 
@@ -152,12 +151,10 @@ image_mapped t images m are rows =
     let c = frob_image t.base t.n t.modulus (m - t.n) in
     let once : t.n ≡ 1 * t.n = omega arith in
     let first : 1 * t.n + t.n ≤ m = omega arith in
-    let one : q ^ 1 ≡ 1 * q = pow-suc q 0 ∙ ap (λ x. x * q) (pow-zero q) in
-    let same : q ^ 1 ≡ q = omega arith in
     ap (λ x. stored r (t.n - 1) (combined_images r t.n images t.n x)) (image-read images m (frob_image t.base t.n t.modulus) are (m - t.n) (omega arith))
     ∙ ap (λ s. stored r (t.n - 1) (combined_images r t.n images s c)) once
     ∙ sym (part_frob t images m are c 1 (image_in t.base t.n t.modulus positive (top_shape_of t) (m - t.n)) first)
-    ∙ ap (power_of (ops_of_top t) c) same
+    ∙ ap (power_of (ops_of_top t) c) (power_once q)
     ∙ image_next t.base t.n t.modulus positive (top_shape_of t) (m - t.n) m (omega arith)
 
 module _ (t : Top) (images : List TopElem) (are : images ≡ first_values (t.n * t.n) (frob_image t.base t.n t.modulus)) where

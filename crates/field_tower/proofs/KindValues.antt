@@ -1,6 +1,5 @@
 -- What a base field computes, by kinds.
-use native.Mathlib.Nat.{pow-zero}
-use Rattle.std.proofs.Common.{◌≡◌, ℕ, suc, ◌+◌, ◌-◌, ◌*◌, ◌%◌, ◌^◌, ◌<◌, ◌≤◌, List, length, slice_index, get_or, bit_xor, sym, ap, ap₂, subst, ◌∙◌, arith, pow-suc}
+use Rattle.std.proofs.Common.{◌≡◌, ℕ, suc, ◌+◌, ◌-◌, ◌*◌, ◌%◌, ◌^◌, ◌<◌, ◌≤◌, List, length, slice_index, get_or, bit_xor, sym, ap, ap₂, subst, ◌∙◌, arith}
 use Rattle.std.proofs.lemmas.List.{get_or_read}
 use Rattle.ring_core.specs.Ring.{IsElem}
 use Rattle.residue_field.specs.Base.{Base, base_ops, ops_of, size_of}
@@ -19,6 +18,7 @@ use Rattle.field_tower.specs.declared.size.TheConstants.{CODES}
 use Rattle.residue_field.specs.Prime.{prime_ops}
 use Rattle.field_tower.proofs.BaseValues.{below_size}
 use Rattle.field_tower.proofs.BaseTables.{table_fits, table-value, row_fits, row-value, modulus_of}
+use Rattle.field_tower.proofs.PowerSteps.{power_once}
 
 -- k as the fields have it, n as the contracts name it
 module _ (k : Base) (q : ℕ) (count : q ≡ size_of k) (n : Base) (same : k ≡ n) where
@@ -41,7 +41,7 @@ module _ (k : Base) (q : ℕ) (count : q ≡ size_of k) (n : Base) (same : k ≡
     pub modular_below : (a : ℕ) → IsElem (ops_of n) a → a < k.p
     modular_below a e =
         let degree : k.s ≡ 1 = sym (degree_of k) ∙ ap suc one in
-        let power : k.p ^ 1 ≡ 1 * k.p = pow-suc k.p 0 ∙ ap (λ x. x * k.p) (pow-zero k.p) in
+        let power : k.p ^ 1 ≡ k.p = power_once k.p in
         let low : a < k.p ^ 1 = subst (λ m. a < k.p ^ m) degree (subst (λ m. a < m) count (below a e)) in
         omega arith
 

@@ -158,9 +158,6 @@ module _ (x : List ℕ) (p m : ℕ) (wide : length x ≡ 16) where
   taken-wide : length (zip2 times (zip2 down (zip2 times x (sixteen m)) (sixteen 19)) (sixteen p)) ≡ 16
   taken-wide = width-splat times _ down-wide p
 
-  pub rests-wide : length rests ≡ 16
-  rests-wide = width-zip minus x wide _ taken-wide
-
   pub rests-lane : (j : ℕ) → j < 16 → slice_index_or rests j 0 ≡ (slice_index_or x j 0 + (4294967296 - ((slice_index_or x j 0 * m) % 4294967296 / 524288 * p) % 4294967296)) % 4294967296
   rests-lane j l =
       lane-zip minus x wide _ taken-wide j l

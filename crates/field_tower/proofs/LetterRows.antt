@@ -1,15 +1,16 @@
 -- The residues of the powers of the letter, each the letter times the one before.
 use Rattle.std.proofs.lemmas.Bool.{cases_lt, cond-false}
-use Rattle.std.proofs.Common.{inl, inr, ◌≡◌, ℕ, zero, suc, ◌-◌, ◌<◌, cond, nat_lt, List, length, sym, ap, ◌∙◌, le-ltb}
+use Rattle.std.proofs.Common.{inl, inr, ◌≡◌, ℕ, suc, ◌-◌, ◌<◌, cond, nat_lt, List, length, sym, ap, ◌∙◌, le-ltb}
 use Rattle.ring_core.specs.Ring.{RingOps, IsElem, IsRing, IsCommutative}
 use Rattle.ring_core.specs.Coeffs.{coeff}
 use Rattle.ring_core.proofs.Carrier.{Element, elements, zero_mul}
 use Rattle.ring_core.proofs.FirstValues.{values_same}
 use Rattle.residue_field.specs.declared.TopElem.{TopElem}
 use Rattle.residue_field.specs.declared.TheConstants.{WIDTH}
-use Rattle.residue_field.specs.Residue.{shifted, times_x}
+use Rattle.residue_field.specs.Residue.{times_x}
 use Rattle.field_tower.specs.steps.Places.{IsModulus, IsStored, stored}
 use Rattle.field_tower.specs.steps.Lanes.{letter_residue}
+use Rattle.field_tower.proofs.Shifts.{shifted_in}
 use Rattle.field_tower.proofs.Writes.{times-x_same}
 use Rattle.field_tower.proofs.Stored.{top_elem, fits_of, modulus_monic, stored-low, stored_in}
 use Rattle.field_tower.proofs.PowerRows.{letter_in}
@@ -29,17 +30,13 @@ stored_same r d g k e =
     ]))
 
 module _ (r : RingOps ℕ) (ring : IsRing r) where
-  shifted_in : (v : ℕ → ℕ) → ((i : ℕ) → IsElem r (v i)) → (i : ℕ) → IsElem r (shifted r v i)
-  shifted_in v e zero = ring.closed.zero_in
-  shifted_in v e (suc i) = e i
-
   -- nothing is added to the letter times v
   pub none_added : (z n : ℕ) (f v : ℕ → ℕ) (i : ℕ) → z ≡ r.zero → ((j : ℕ) → IsElem r (f j)) → ((j : ℕ) → IsElem r (v j))
       → r.add (r.mul z (f i)) (times_x r n f v i) ≡ times_x r n f v i
   none_added z n f v i e f_in v_in =
       let x : Element r = (f i, f_in i) in
       ap (λ s. r.add s (times_x r n f v i)) (ap (λ y. r.mul y (f i)) e ∙ ap (λ y. y.0) (zero_mul (elements ring) x))
-      ∙ ring.zero_add (times_x r n f v i) (ring.closed.add_in _ _ (shifted_in v v_in i) (ring.closed.neg_in _ (ring.closed.mul_in _ _ (v_in n) (f_in i))))
+      ∙ ring.zero_add (times_x r n f v i) (ring.closed.add_in _ _ (shifted_in r ring v v_in i) (ring.closed.neg_in _ (ring.closed.mul_in _ _ (v_in n) (f_in i))))
 
   module _ (commutes : IsCommutative r) (modulus : List ℕ) (monic : IsModulus r modulus) where
     abbrev d : ℕ

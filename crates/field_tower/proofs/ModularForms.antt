@@ -1,7 +1,6 @@
 -- A base field of the numbers modulo a prime: its sums of products are plain sums, taken modulo the prime
 -- once at the end.
-use native.Mathlib.Nat.{pow-zero}
-use Rattle.std.proofs.Common.{◌≡◌, ℕ, zero, suc, ◌+◌, ◌-◌, ◌*◌, ◌%◌, ◌^◌, ◌<◌, ◌≤◌, true, List, length, slice_index_or, sym, refl, ap, ap₂, subst, ◌∙◌, arith, mul_comm, zero-mul, ltb-true, lt-ltb, pow-suc, mod-lt, mod-eq_of_lt}
+use Rattle.std.proofs.Common.{◌≡◌, ℕ, zero, suc, ◌+◌, ◌-◌, ◌*◌, ◌%◌, ◌^◌, ◌<◌, ◌≤◌, true, List, length, slice_index_or, sym, refl, ap, ap₂, subst, ◌∙◌, arith, mul_comm, zero-mul, ltb-true, lt-ltb, mod-lt, mod-eq_of_lt}
 use Rattle.std.proofs.Math.Nat.{add-mod-mod, mod-add-mod}
 use Rattle.ring_core.specs.Ring.{RingOps, IsElem}
 use Rattle.ring_core.specs.Coeffs.{coeff, are_elems, sum_below}
@@ -19,6 +18,7 @@ use Rattle.field_tower.specs.steps.Places.{IsStored}
 use Rattle.field_tower.specs.steps.Images.{image_at, combined_images}
 use Rattle.field_tower.specs.steps.Lanes.{plain_sum, place_of}
 use Rattle.field_tower.proofs.PlainSums.{plain-same}
+use Rattle.field_tower.proofs.PowerSteps.{power_once}
 
 -- the elements of r are the numbers below p, with the sum and the product modulo p
 pub record IsModular (r : RingOps ℕ) (p : ℕ) : Type 0 where
@@ -28,15 +28,12 @@ pub record IsModular (r : RingOps ℕ) (p : ℕ) : Type 0 where
   pub add_is : (a b : ℕ) → a < p → b < p → r.add a b ≡ (a + b) % p
   pub mul_is : (a b : ℕ) → a < p → b < p → r.mul a b ≡ (a * b) % p
 
-once : (p : ℕ) → p ^ 1 ≡ p
-once p = pow-suc p 0 ∙ ap (λ m. m * p) (pow-zero p) ∙ omega arith
-
 modular_shape : (p : ℕ) (modulus : List ℕ) → IsBaseShape p 0 modulus → IsModular (base_ops p 0 modulus) p
 unfolding base_ops
 modular_shape p modulus shape = record {
   zero_is = omega arith;
-  low = λ a e. subst (λ m. a < m) (once p) (ltb-true a (p ^ 1) e);
-  elem = λ a l. lt-ltb a (p ^ 1) (subst (λ m. a < m) (sym (once p)) l);
+  low = λ a e. subst (λ m. a < m) (power_once p) (ltb-true a (p ^ 1) e);
+  elem = λ a l. lt-ltb a (p ^ 1) (subst (λ m. a < m) (sym (power_once p)) l);
   add_is = prime_add p modulus shape;
   mul_is = prime_mul p modulus shape;
 }

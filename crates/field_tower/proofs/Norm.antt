@@ -1,33 +1,13 @@
 -- The inverse from the norm, which is an element of the base.
-use Rattle.std.proofs.Common.{◌≡◌, ◌≢◌, ℕ, zero, suc, ◌+◌, Option, Some, None, MatchOption, sym, refl, ap, ◌∙◌, arith}
+use Rattle.std.proofs.Common.{◌≡◌, ◌≢◌, ℕ, zero, suc, ◌+◌, ◌/◌, ◌%◌, Option, Some, None, sym, ap, ◌∙◌, arith}
 use Rattle.ring_core.specs.Ring.{RingOps, IsElem}
 use Rattle.ring_core.specs.Field.{FrobOps, IsField, IsFrobField}
-use Rattle.ring_core.proofs.Carrier.{elements, zero_mul}
-use Rattle.ring_core.proofs.Twist.{frob_of_zero}
+use Rattle.ring_core.proofs.Twist.{frob_of_zero, frob_of_one}
 use Rattle.ring_core.proofs.Degrees.{no_zero_divisors}
 use Rattle.field_tower.specs.steps.Norm.{conjugate_product}
+use Rattle.field_tower.proofs.Inverses.{inverse_from, inverse_none}
 
--- An inverse is what makes one of a product.
 module _ {E : Type 0} (r : RingOps E) (inv : E → Option E) (k : IsField r inv) where
-  inverse_same : (a x : E) → IsElem r a → IsElem r x → r.mul a x ≡ r.one → (o : Option E) → MatchOption o (a ≡ r.zero) (λ b. IsElem r b × (r.mul a b ≡ r.one)) → Some x ≡ o
-  inverse_same a x p q e None z =
-      absurd (k.one_ne_zero (sym e ∙ ap (λ y. r.mul y x) z ∙ ap (λ y. y.0) (zero_mul (elements k.ring) (x, q))))
-  inverse_same a x p q e (Some b) inverse =
-      let ring = k.ring in
-      ap Some (sym (ring.mul_one x q) ∙ ap (r.mul x) (sym inverse.1) ∙ sym (ring.mul_assoc x a b q p inverse.0)
-      ∙ ap (λ y. r.mul y b) (k.mul_comm x a q p ∙ e) ∙ ring.one_mul b inverse.0)
-
-  pub inverse_from : (a x : E) → IsElem r a → IsElem r x → r.mul a x ≡ r.one → Some x ≡ inv a
-  inverse_from a x p q e = inverse_same a x p q e (inv a) (k.inv_is a p)
-
-  none_same : (a : E) → (a ≢ r.zero → ⊥) → (o : Option E) → MatchOption o (a ≡ r.zero) (λ b. IsElem r b × (r.mul a b ≡ r.one)) → None ≡ o
-  none_same a never None z = refl
-  none_same a never (Some b) inverse =
-      absurd (never (λ z. k.one_ne_zero (sym inverse.1 ∙ ap (λ y. r.mul y b) z ∙ ap (λ y. y.0) (zero_mul (elements k.ring) (b, inverse.0)))))
-
-  pub inverse_none : (a : E) → IsElem r a → (a ≢ r.zero → ⊥) → None ≡ inv a
-  inverse_none a p never = none_same a never (inv a) (k.inv_is a p)
-
   swapped : (u v w : E) → IsElem r u → IsElem r v → IsElem r w → r.mul (r.mul u v) w ≡ r.mul (r.mul u w) v
   swapped u v w p q s =
       k.ring.mul_assoc u v w p q s ∙ ap (r.mul u) (k.mul_comm v w q s) ∙ sym (k.ring.mul_assoc u w v p s q)
@@ -54,6 +34,38 @@ module _ {E B : Type 0} (r : RingOps E) (inv : E → Option E) (base : RingOps B
       ∙ ap (r.mul (f.frob before 1)) (sym (l.frob_plus a (suc i) 1 p) ∙ ap (f.frob a) step))
       ∙ swapped r inv k (f.frob before 1) (f.frob a (suc (suc i))) (f.frob a 1) (l.frob_in before 1 here) (l.frob_in a (suc (suc i)) p) (l.frob_in a 1 p)
       ∙ ap (λ x. r.mul x (f.frob a (suc (suc i)))) (sym (l.frob_mul before a 1 here p))
+
+  pub conjugates_add : (i j : ℕ) → conjugate_product r f a (i + j) ≡ r.mul (conjugate_product r f a i) (f.frob (conjugate_product r f a j) i)
+  conjugates_add i zero =
+      let same : i + 0 ≡ i = omega arith in
+      ap conj same ∙ sym (k.ring.mul_one _ (conjugates_in i))
+      ∙ ap (r.mul (conjugate_product r f a i)) (sym (frob_of_one r inv base f k l i))
+  conjugates_add i (suc j) =
+      let first = conjugate_product r f a i in
+      let second = conjugate_product r f a j in
+      let first_in = conjugates_in i in
+      let second_in = conjugates_in j in
+      let next : i + suc j ≡ suc (i + j) = omega arith in
+      let turned : suc (i + j) ≡ suc j + i = omega arith in
+      ap conj next ∙ conjugates_next (i + j)
+      ∙ ap (λ x. r.mul x (f.frob a (suc (i + j)))) (conjugates_add i j)
+      ∙ k.ring.mul_assoc first (f.frob second i) (f.frob a (suc (i + j))) first_in (l.frob_in second i second_in) (l.frob_in a (suc (i + j)) p)
+      ∙ ap (r.mul first)
+      (ap (r.mul (f.frob second i)) (ap (f.frob a) turned ∙ l.frob_plus a (suc j) i p)
+      ∙ sym (l.frob_mul second (f.frob a (suc j)) i second_in (l.frob_in a (suc j) p))
+      ∙ ap (λ x. f.frob x i) (sym (conjugates_next j)))
+
+  -- by halves
+  pub conjugates_even : (m : ℕ) → m % 2 ≡ 0 → conjugate_product r f a m ≡ r.mul (conjugate_product r f a (m / 2)) (f.frob (conjugate_product r f a (m / 2)) (m / 2))
+  conjugates_even m e =
+      let halves : m ≡ m / 2 + m / 2 = omega arith in
+      ap conj halves ∙ conjugates_add (m / 2) (m / 2)
+
+  pub conjugates_odd : (m : ℕ) → m % 2 ≡ 1
+      → conjugate_product r f a m ≡ f.frob (r.mul (r.mul (conjugate_product r f a (m / 2)) (f.frob (conjugate_product r f a (m / 2)) (m / 2))) a) 1
+  conjugates_odd m e =
+      let halves : m ≡ suc (m / 2 + m / 2) = omega arith in
+      ap conj halves ∙ ap (λ x. f.frob (r.mul x a) 1) (conjugates_add (m / 2) (m / 2))
 
   conjugates_nonzero : a ≢ r.zero → (i : ℕ) → conjugate_product r f a i ≢ r.zero
   conjugates_nonzero ne zero = k.one_ne_zero

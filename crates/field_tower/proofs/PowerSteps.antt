@@ -1,10 +1,16 @@
 -- Powers in the steps in which code computes them.
-use native.Mathlib.Nat.{pow-zero}
-use Rattle.std.proofs.Common.{◌≡◌, ℕ, suc, ◌+◌, ◌*◌, ◌^◌, sym, ap, ◌∙◌, arith, pow-suc}
+use native.Mathlib.Nat.{pow-le-pow_right, pow-zero}
+use Rattle.std.proofs.Common.{◌≡◌, ℕ, suc, ◌+◌, ◌*◌, ◌^◌, ◌<◌, ◌≤◌, sym, ap, subst, ◌∙◌, arith, pow-suc}
 use Rattle.ring_core.specs.Ring.{RingOps, IsElem, IsRing}
 use Rattle.ring_core.specs.Powers.{power_of}
 use Rattle.ring_core.proofs.Carrier.{Element, elements}
 use Rattle.finite_ring.proofs.Powers.{power, power_value, power-power}
+
+pub power_once : (n : ℕ) → n ^ 1 ≡ n
+power_once n = pow-suc n 0 ∙ ap (λ m. m * n) (pow-zero n) ∙ omega arith
+
+pub power_large : (n k : ℕ) → 0 < n → 1 ≤ k → n ≤ n ^ k
+power_large n k positive some = subst (λ m. m ≤ n ^ k) (power_once n) (pow-le-pow_right positive some)
 
 module _ {E : Type 0} (r : RingOps E) (h : IsRing r) (a : E) (p : IsElem r a) where
   pub power_times : (i j : ℕ) → power_of r (power_of r a i) j ≡ power_of r a (i * j)

@@ -1,6 +1,5 @@
 -- What is written by the exclusive or or modulo the prime, in the terms of the base field.
-use native.Mathlib.Nat.{pow-zero}
-use Rattle.std.proofs.Common.{◌≡◌, ℕ, suc, ◌+◌, ◌-◌, ◌*◌, ◌%◌, ◌^◌, ◌<◌, true, List, length, bit_xor, slice_index_or, sym, subst, ap, ap₂, ◌∙◌, arith, lt-ltb, mod-lt, pow-suc}
+use Rattle.std.proofs.Common.{◌≡◌, ℕ, suc, ◌+◌, ◌-◌, ◌*◌, ◌%◌, ◌^◌, ◌<◌, true, List, length, bit_xor, slice_index_or, sym, subst, ap, ap₂, ◌∙◌, arith, lt-ltb, mod-lt}
 use Rattle.ring_core.specs.Ring.{IsElem}
 use Rattle.ring_core.specs.Coeffs.{coeff, are_elems}
 use Rattle.ring_core.specs.Written.{IsWritten}
@@ -11,6 +10,7 @@ use Rattle.residue_field.specs.Base.{Base, base_ops, ops_of, size_of}
 use Rattle.residue_field.proofs.BaseForms.{prime_add, prime_mul, add-xor}
 use Rattle.residue_field.proofs.BaseLaws.{IsBaseShape, base_ring, degree_of, shape_of}
 use Rattle.field_tower.proofs.BaseValues.{base-zero, base-one, below_size}
+use Rattle.field_tower.proofs.PowerSteps.{power_once}
 
 -- the same places, told of another default and of other values
 retold : (d e at n : ℕ) (f g : ℕ → ℕ) (before after : List ℕ) → d ≡ e → ((k : ℕ) → k < n → f k ≡ g k) → IsWritten d at n f before after → IsWritten e at n g before after
@@ -70,7 +70,7 @@ module _ (k : Base) where
 
     size_is : size_of k ≡ k.p
     size_is =
-        let power : k.p ^ 1 ≡ 1 * k.p = pow-suc k.p 0 ∙ ap (λ x. x * k.p) (pow-zero k.p) in
+        let power : k.p ^ 1 ≡ k.p = power_once k.p in
         ap (λ n. k.p ^ n) one ∙ omega arith
 
     pub prime_below : (a : ℕ) → IsElem (ops_of k) a → a < k.p

@@ -12,7 +12,8 @@ ghost use Rattle.residue_field.specs.Prime.{prime_ops};
 ghost use Rattle.residue_field.specs.Base.{ops_of};
 ghost use Rattle.field_tower.specs.steps.Places.{IsModulus, stored, stored_ops};
 ghost use Rattle.field_tower.specs.steps.Images.{image_at, combined_images};
-ghost use Rattle.field_tower.specs.steps.Bits.{IsBinary, every_place};
+ghost use Rattle.field_tower.specs.steps.Bits.{IsBinary};
+ghost use Rattle.field_tower.specs.steps.Lanes.{sixteen};
 
 use super::base::BaseField;
 use residue_field::{Code, TopElem, WIDTH};
@@ -93,7 +94,7 @@ pub(crate) fn mul(base: &BaseField, modulus: &[Code], a: TopElem, b: TopElem) ->
 
 /// `sum` with the lanes of `row` that the bits of `c` choose.
 fn masked(sum: u16x16, c: u16, row: u16x16) -> u16x16
-    ensures { result ≡ zip2 bit_xor sum (zip2 bit_and (every_place c) row) }
+    ensures { result ≡ zip2 bit_xor sum (zip2 bit_and (sixteen c) row) }
 {
     sum ^ (u16x16::splat(c) & row)
 }

@@ -179,17 +179,40 @@ impl Tower {
         Ok(min_poly(alloc, self, c)?)
     }
 
-    /// The product of the conjugates of `a` but `a` itself: times `a` it is the norm, a constant.
-    fn conjugates(&self, a: TopElem) -> TopElem
+    /// The product of the first `k` conjugates of `a` past `a` itself. That of the first `j + k` is that of
+    /// the first `j` times the image of that of the first `k` by `j` steps of Frobenius: with `j = k` there
+    /// are at most two products and two steps for each binary digit of `k`.
+    fn conjugates(&self, a: TopElem, k: usize) -> TopElem
         requires { IsElem (ops_of_top self.now) a }
-        ensures value { result ≡ conjugate_product (ops_of_top self.now) (frob_of_top self.now) a (self.now.n - 1) }
+        ensures value { result ≡ conjugate_product (ops_of_top self.now) (frob_of_top self.now) a k }
         ensures elem { IsElem (ops_of_top self.now) result }
     {
-        let mut result = self.one();
-        for _i in 0..self.n - 1 {
-            result = self.frob(self.mul(result, a), 1);
+        if k == 0 {
+            return self.one();
         }
-        result
+        if k == 1 {
+            return self.frob(a, 1);
+        }
+        let half = self.conjugates(a, k / 2);
+        let raised = self.frob(half, k / 2);
+        let double = self.mul(half, raised);
+        if k % 2 == 0 {
+            double
+        } else {
+            self.frob(self.mul(double, a), 1)
+        }
+    }
+
+    /// `a` times the constant `d`, by one row operation.
+    fn scaled(&self, a: TopElem, d: Code) -> TopElem
+        requires elem { IsElem (ops_of_top self.now) a }
+        requires factor { IsElem (ops_of self.now.base) d }
+        ensures value { result ≡ (ops_of_top self.now).mul a (embed_of self.now d) }
+        ensures elem { IsElem (ops_of_top self.now) result }
+    {
+        let mut places = places::zeros(&self.base);
+        self.base.add_row(&mut places, 0, d, &a.0);
+        TopElem(places)
     }
 
     /// The residue of the polynomial `z`.
@@ -248,11 +271,11 @@ impl Field for Tower {
     }
 
     fn inv(&self, a: TopElem) -> Option<TopElem> {
-        let others = self.conjugates(a);
+        let others = self.conjugates(a, self.degree() - 1);
         let norm = self.mul(others, a);
         match self.base.inv(norm.0[0]) {
             None => None,
-            Some(d) => Some(self.mul(others, self.embed(d))),
+            Some(d) => Some(self.scaled(others, d)),
         }
     }
 

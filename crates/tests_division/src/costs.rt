@@ -6,7 +6,7 @@ use ring_core::{E, FrobField};
 use std::alloc::Global;
 use std::process::Abort;
 use std::test::Fail;
-use tests_support::counting::CountingTower;
+use tests_support::counting::CountingField;
 use tests_support::fields::{FOUR, TWELVE, elements, tower};
 use tests_support::plain::numbered;
 use tests_support::twisted::made;
@@ -14,7 +14,7 @@ use tests_support::twisted::made;
 /// That at most `most` products, as many steps of the Frobenius and one inverse were counted.
 fn check_counts<K: FrobField>(
     rt: &impl Abort,
-    counting: &CountingTower<K>,
+    counting: &CountingField<K>,
     most: u64,
 ) -> Result<(), Fail> {
     assert!(rt;
@@ -43,12 +43,12 @@ fn check_division<K: FrobField>(
         .saturating_add(1)
         .saturating_sub(b.len() as u64)
         .saturating_mul(b.len() as u64);
-    let counting = CountingTower::new(field);
+    let counting = CountingField::new(field);
     let left = made(alloc, &counting, a)?;
     let right = made(alloc, &counting, b)?;
     right_divide(alloc, &counting, &left, &right)?;
     check_counts(rt, &counting, most)?;
-    let counting = CountingTower::new(field);
+    let counting = CountingField::new(field);
     let left = made(alloc, &counting, a)?;
     let right = made(alloc, &counting, b)?;
     left_divide(alloc, &counting, &left, &right)?;
@@ -62,7 +62,7 @@ fn common_cost<K: FrobField>(
     a: &[E<K>],
     b: &[E<K>],
 ) -> Result<(u64, usize), Fail> {
-    let counting = CountingTower::new(field);
+    let counting = CountingField::new(field);
     let left = made(alloc, &counting, a)?;
     let right = made(alloc, &counting, b)?;
     let v = common_right(alloc, &counting, &left, &right)?;

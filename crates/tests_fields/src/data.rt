@@ -1,5 +1,5 @@
 //! Elements of fields as the numbers with their digits.
-use super::plain::{Number, ROOM, digits, number};
+use super::plain::{Digits, Number, ROOM, digits, number};
 use field_tower::{Code, TopElem, WIDTH};
 use std::alloc::Global;
 use std::process::Abort;
@@ -8,26 +8,29 @@ use std::test::Fail;
 /// `F_4[z] / (z^2 + z + a)`.
 pub const SIXTEEN: &str = "2 2; 1 1 1 | 2; 2 1 1";
 
-/// The number whose digits in base `q` are the places of `c`, of which each must be a digit.
-pub fn top_number(rt: &impl Abort, q: Number, c: TopElem) -> Number {
+/// The places of `c` as digits.
+pub fn places(c: TopElem) -> Digits {
     let mut list = [0; ROOM];
     for i in 0..WIDTH {
         list[i] = c.0[i] as Number;
     }
-    let a = number(q, &list);
-    assert_eq!(rt; top_element(q, a).0, c.0);
-    a
+    list
 }
 
-/// The element whose places are the digits of `a` in base `q`, where `q` is at most the number of
-/// codes.
-pub fn top_element(q: Number, a: Number) -> TopElem {
-    let list = digits(q, WIDTH, a);
+/// The element whose places are these digits, of which each must be a code.
+pub fn of_places(list: &Digits) -> TopElem {
     let mut places = [0; WIDTH];
     for i in 0..WIDTH {
         places[i] = Code::try_from(list[i]).unwrap_or(0);
     }
     TopElem(places)
+}
+
+/// The number whose digits in base `q` are the places of `c`, of which each must be a digit.
+pub fn top_number(rt: &impl Abort, q: Number, c: TopElem) -> Number {
+    let a = number(q, &places(c));
+    assert_eq!(rt; of_places(&digits(q, WIDTH, a)).0, c.0);
+    a
 }
 
 /// The codes that are these numbers.

@@ -1,9 +1,9 @@
 //! Minimal polynomials against the product of `x - b` over the different conjugates `b`, by the plain
 //! computation.
 
-use super::data::{SIXTEEN, codes_of, top_element};
-use super::plain::{Modulo, Number, Numbers, Residues, next_power, next_sample, sample_element};
-use field_tower::{Code, TopElem, Tower};
+use super::data::{SIXTEEN, codes_of, of_places};
+use super::plain::{Modulo, Number, Numbers, Residues, digits};
+use field_tower::{Code, TopElem, Tower, WIDTH};
 use fq_poly::Poly;
 use ring_core::{Field, FrobField};
 use std::alloc::Global;
@@ -41,7 +41,7 @@ fn times_linear<N: Numbers>(
 /// has degree `n`: they come round to `a` after `n` steps at most.
 fn conjugate_product<N: Numbers>(
     alloc: Global,
-    plain: &N,
+    plain: &Residues<'_, N>,
     q: (u32, u32),
     n: usize,
     a: Number,
@@ -51,7 +51,7 @@ fn conjugate_product<N: Numbers>(
     let mut conjugate = a;
     for _ in 0..n {
         product = times_linear(alloc, plain, &product, conjugate)?;
-        conjugate = next_power(plain, q, conjugate);
+        conjugate = plain.number(&plain.next_power(q, &plain.digits(conjugate)));
         if conjugate == a {
             return Ok(product);
         }
@@ -61,7 +61,7 @@ fn conjugate_product<N: Numbers>(
 
 /// The minimal polynomial of the element with this number.
 fn min_poly_of(alloc: Global, tower: &Tower, a: Number) -> Result<Poly<Code>, Fail> {
-    let c: TopElem = top_element(tower.base().q() as Number, a);
+    let c: TopElem = of_places(&digits(tower.base().q() as Number, WIDTH, a));
     if !tower.is_elem(c) {
         return Err(Fail::new("the number of an element"));
     }
@@ -74,7 +74,7 @@ fn check_element<N: Numbers>(
     rt: &impl Abort,
     alloc: Global,
     tower: &Tower,
-    plain: &N,
+    plain: &Residues<'_, N>,
     a: Number,
 ) -> Result<(), Fail> {
     let q = (tower.base().p(), tower.base().s());
@@ -89,7 +89,7 @@ fn check_all<N: Numbers>(
     rt: &impl Abort,
     alloc: Global,
     tower: &Tower,
-    plain: &N,
+    plain: &Residues<'_, N>,
 ) -> Result<(), Fail> {
     for a in 0..plain.size() {
         check_element(rt, alloc, tower, plain, a)?;
@@ -101,12 +101,11 @@ fn check_sample<N: Numbers>(
     rt: &impl Abort,
     alloc: Global,
     tower: &Tower,
-    plain: &N,
+    plain: &Residues<'_, N>,
 ) -> Result<(), Fail> {
     let mut state = 1;
     for _ in 0..20 {
-        state = next_sample(state);
-        let a = sample_element(state, plain.size());
+        let a = plain.sampled(&mut state);
         check_element(rt, alloc, tower, plain, a)?;
     }
     Ok(())

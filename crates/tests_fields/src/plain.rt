@@ -1,8 +1,10 @@
-//! Rings by their plain definition: the numbers below a prime, and residues of polynomials over such
+//! Rings by their plain definition: the numbers below a prime, bits, and residues of polynomials over such
 //! a ring. An element is a number below the size of its ring. The coefficients of a residue are the
 //! digits of its number, lowest first, in the base that is the size of the ring of constants.
 ghost use Rattle.std.specs.Prelude.{◌+◌, ◌≤◌};
 ghost use Rattle.tests_fields.specs.declared.plain.TheConstants.{MOST, ROOM};
+
+use tests_support::draws::next_sample;
 
 /// The greatest degree of a modulus.
 const MOST: usize = 16;
@@ -10,8 +12,8 @@ const MOST: usize = 16;
 /// How many places a list of digits has: those of a product of two residues.
 pub const ROOM: usize = 32;
 
-/// An element of a ring, and a digit of one: the field of 251 elements and degree 16 has fewer than `2^128`.
-pub type Number = u128;
+/// An element of a ring of fewer than `2^64` elements, and a digit of a residue of any ring.
+pub type Number = u64;
 
 /// A list of digits, lowest first, 0 past its end.
 pub type Digits = [Number; ROOM];
@@ -80,6 +82,66 @@ impl Numbers for Modulo {
     }
 }
 
+/// The residues of polynomials over two elements, modulo a monic polynomial of degree at most 16: the coefficients are the
+/// bits of a number.
+#[derive(Drop)]
+pub struct Bits {
+    size: Number,
+    modulus: Number,
+}
+
+impl Bits {
+    /// The residues modulo the polynomial with these coefficients, lowest first, the last of them one.
+    pub fn new(modulus: &[u32]) -> Bits {
+        let mut size: Number = 1;
+        let mut bits: Number = 0;
+        for i in 0..modulus.len() {
+            if modulus[i] == 1 {
+                bits |= size;
+            }
+            if i + 1 < modulus.len() {
+                size = size.wrapping_mul(2);
+            }
+        }
+        Bits {
+            size,
+            modulus: bits,
+        }
+    }
+}
+
+impl Numbers for Bits {
+    fn size(&self) -> Number {
+        self.size
+    }
+
+    fn add(&self, a: Number, b: Number) -> Number {
+        a ^ b
+    }
+
+    fn neg(&self, a: Number) -> Number {
+        a
+    }
+
+    /// The sum of the products of `a` with the powers of the letter that `b` has.
+    fn mul(&self, a: Number, b: Number) -> Number {
+        let mut product = 0;
+        let mut multiple = a;
+        let mut rest = b;
+        for _ in 0..MOST {
+            if rest & 1 == 1 {
+                product ^= multiple;
+            }
+            rest >>= 1;
+            multiple <<= 1;
+            if multiple >= self.size {
+                multiple ^= self.modulus;
+            }
+        }
+        product
+    }
+}
+
 /// The residues of polynomials over the ring of constants, modulo a monic polynomial.
 #[derive(Drop)]
 pub struct Residues<'k, N: Numbers> {
@@ -104,11 +166,13 @@ impl<'k, N: Numbers> Residues<'k, N> {
         }
     }
 
-    fn digits(&self, a: Number) -> Digits {
+    /// The digits of the residue with this number.
+    pub fn digits(&self, a: Number) -> Digits {
         digits(self.constants.size(), self.degree, a)
     }
 
-    fn number(&self, list: &Digits) -> Number {
+    /// The number of the residue with these digits, where the ring has fewer than `2^64` elements.
+    pub fn number(&self, list: &Digits) -> Number {
         number(self.constants.size(), list)
     }
 
@@ -122,15 +186,6 @@ impl<'k, N: Numbers> Residues<'k, N> {
         }
     }
 
-    /// The schoolbook product of polynomials.
-    fn product(&self, a: &Digits, b: &Digits) -> Digits {
-        let mut sum = [0; ROOM];
-        for i in 0..self.degree {
-            self.add_scaled(&mut sum, i, a[i], b, self.degree);
-        }
-        sum
-    }
-
     /// What long division by the modulus leaves.
     fn rest(&self, list: Digits) -> Digits {
         let mut rest = list;
@@ -140,6 +195,74 @@ impl<'k, N: Numbers> Residues<'k, N> {
             self.add_scaled(&mut rest, i, factor, &self.modulus, n + 1);
         }
         rest
+    }
+
+    /// The sum of residues.
+    pub fn sum(&self, a: &Digits, b: &Digits) -> Digits {
+        let mut sum = *a;
+        self.add_scaled(&mut sum, 0, 1, b, self.degree);
+        sum
+    }
+
+    /// The negative of a residue.
+    pub fn negative(&self, a: &Digits) -> Digits {
+        let mut list = *a;
+        for i in 0..self.degree {
+            list[i] = self.constants.neg(list[i]);
+        }
+        list
+    }
+
+    /// The product of residues: the schoolbook product of polynomials, and what long division of it leaves.
+    pub fn product(&self, a: &Digits, b: &Digits) -> Digits {
+        let mut sum = [0; ROOM];
+        for i in 0..self.degree {
+            self.add_scaled(&mut sum, i, a[i], b, self.degree);
+        }
+        self.rest(sum)
+    }
+
+    /// The power of `a` by `k`: the product of the squares of squares of `a` that the bits of `k` name.
+    fn power(&self, a: &Digits, k: u32) -> Digits {
+        let mut power = self.digits(1);
+        let mut square = *a;
+        let mut rest = k;
+        for _ in 0..u32::BITS {
+            if rest & 1 == 1 {
+                power = self.product(&power, &square);
+            }
+            rest >>= 1;
+            if rest == 0 {
+                break;
+            }
+            square = self.product(&square, &square);
+        }
+        power
+    }
+
+    /// The power of `a` by `p^s`: the power by `p`, `s` times over.
+    pub fn next_power(&self, (p, s): (u32, u32), a: &Digits) -> Digits {
+        let mut next = *a;
+        for _ in 0..s {
+            next = self.power(&next, p);
+        }
+        next
+    }
+
+    /// The residue whose digits the next numbers of the sequence stand for: their lowest bits, which repeat soon, are
+    /// left out.
+    pub fn sample(&self, state: &mut u32) -> Digits {
+        let mut list = [0; ROOM];
+        for i in 0..self.degree {
+            *state = next_sample(*state);
+            list[i] = remainder((*state >> 16) as Number, self.constants.size());
+        }
+        list
+    }
+
+    /// The number of such a residue.
+    pub fn sampled(&self, state: &mut u32) -> Number {
+        self.number(&self.sample(state))
     }
 }
 
@@ -153,22 +276,15 @@ impl<'k, N: Numbers> Numbers for Residues<'k, N> {
     }
 
     fn add(&self, a: Number, b: Number) -> Number {
-        let mut sum = self.digits(a);
-        self.add_scaled(&mut sum, 0, 1, &self.digits(b), self.degree);
-        self.number(&sum)
+        self.number(&self.sum(&self.digits(a), &self.digits(b)))
     }
 
     fn neg(&self, a: Number) -> Number {
-        let mut list = self.digits(a);
-        for i in 0..self.degree {
-            list[i] = self.constants.neg(list[i]);
-        }
-        self.number(&list)
+        self.number(&self.negative(&self.digits(a)))
     }
 
     fn mul(&self, a: Number, b: Number) -> Number {
-        let product = self.product(&self.digits(a), &self.digits(b));
-        self.number(&self.rest(product))
+        self.number(&self.product(&self.digits(a), &self.digits(b)))
     }
 }
 
@@ -196,39 +312,4 @@ pub fn has_pair<N: Numbers>(ring: &N) -> bool {
         }
     }
     false
-}
-
-/// `a` multiplied `k` times, product by product.
-fn power<N: Numbers>(ring: &N, a: Number, k: u32) -> Number {
-    let mut power = 1;
-    for _ in 0..k {
-        power = ring.mul(power, a);
-    }
-    power
-}
-
-/// The power of `a` by `p^s`: the power by `p`, `s` times over.
-pub fn next_power<N: Numbers>(ring: &N, (p, s): (u32, u32), a: Number) -> Number {
-    let mut next = a;
-    for _ in 0..s {
-        next = power(ring, next, p);
-    }
-    next
-}
-
-/// The next number of a fixed sequence, by which samples are taken.
-pub fn next_sample(state: u32) -> u32 {
-    state.wrapping_mul(1_664_525).wrapping_add(1_013_904_223)
-}
-
-/// The element that five numbers of the sequence from `state` on stand for: their lowest bits, which repeat soon, are
-/// left out.
-pub fn sample_element(state: u32, size: Number) -> Number {
-    let mut drawn: Number = 0;
-    let mut next = state;
-    for _ in 0..5 {
-        drawn = (drawn << 26) | (next >> 6) as Number;
-        next = next_sample(next);
-    }
-    remainder(drawn, size)
 }

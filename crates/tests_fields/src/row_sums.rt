@@ -1,7 +1,7 @@
 //! The row operation of base fields against sums and products by the plain computation.
 
 use super::data::codes_of;
-use super::plain::{Modulo, Number, Numbers, Residues, next_sample, sample_element};
+use super::plain::{Modulo, Number, Numbers, Residues};
 use super::tables::{LARGE, SMALL, WIDE};
 use field_tower::{BaseField, Code};
 use ring_core::Field;
@@ -11,61 +11,89 @@ use std::process::Abort;
 use std::test::Fail;
 use tests_support::fields::{base_data, make_base};
 
-/// How many members the row has that is added.
-const LENGTH: usize = 40;
+/// How many members the rows have that are added: none, one, and about as many as the 16 lanes of a vector, or twice as
+/// many.
+const LENGTHS: [usize; 8] = [0, 1, 15, 16, 17, 32, 33, MOST];
 
-/// The place of the other row from which on it is added.
+/// How many members the longest of them has.
+const MOST: usize = 40;
+
+/// The place of the other row from which on they are added.
 const PLACE: usize = 3;
 
 /// As many drawn elements, as numbers.
-fn drawn(alloc: Global, size: Number, state: u32, count: usize) -> Result<Vec<Number>, Fail> {
+fn drawn<N: Numbers>(
+    alloc: Global,
+    plain: &Residues<'_, N>,
+    state: u32,
+    count: usize,
+) -> Result<Vec<Number>, Fail> {
     let mut list = Vec::new(alloc);
     let mut next = state;
     for _ in 0..count {
-        next = next_sample(next);
-        list.push(sample_element(next, size))?;
+        list.push(plain.sampled(&mut next))?;
     }
     Ok(list)
 }
 
-/// The sum of member `k` of `before` and `c` times the member of `added` that comes to stand there.
-fn sum_at<N: Numbers>(
+/// The list `before` with `c` times `added` added to it from the place `PLACE` on.
+fn sums<N: Numbers>(
+    alloc: Global,
     plain: &N,
     c: Number,
     before: &[Number],
     added: &[Number],
-    k: usize,
-) -> Number {
-    let old = before.get(k).copied().unwrap_or(0);
-    match k.checked_sub(PLACE) {
-        None => old,
-        Some(j) => plain.add(old, plain.mul(c, added.get(j).copied().unwrap_or(0))),
+) -> Result<Vec<Number>, Fail> {
+    let mut list = Vec::new(alloc);
+    for (k, old) in before.iter().enumerate() {
+        let member = k.checked_sub(PLACE).and_then(|j| added.get(j).copied());
+        list.push(plain.add(*old, plain.mul(c, member.unwrap_or(0))))?;
     }
+    Ok(list)
 }
 
-/// Adds `c` times a drawn row to a drawn row.
-fn check_factor<N: Numbers>(
+/// Adds `c` times `added` to `before`: up to its end the members are those of `sums`, and past it those of `before`.
+fn check_row(
     rt: &impl Abort,
     alloc: Global,
     field: &BaseField,
-    plain: &N,
     c: Number,
+    (before, added): (&[Number], &[Number]),
+    sums: &[Number],
 ) -> Result<(), Fail> {
-    let before = drawn(alloc, plain.size(), 1, PLACE + LENGTH)?;
-    let added = drawn(alloc, plain.size(), 2, LENGTH)?;
-    let mut out = codes_of(alloc, &before)?;
-    let row = codes_of(alloc, &added)?;
+    let mut out = codes_of(alloc, before)?;
+    let row = codes_of(alloc, added)?;
     let factor = Code::try_from(c)?;
-    if row.len() != LENGTH || out.len() != PLACE + LENGTH {
+    if row.len() > MOST || out.len() != PLACE + MOST {
         return Err(Fail::new("rows of these lengths"));
     }
     if !field.is_elem(factor) || !all_elems(field, &out) || !all_elems(field, &row) {
         return Err(Fail::new("elements"));
     }
     field.add_row(&mut out, PLACE, factor, &row);
+    let end = PLACE + row.len();
     for k in 0..out.len() {
-        let want = sum_at(plain, c, &before, &added, k);
-        assert_eq!(rt; out[k] as Number, want, "{c} at {k}");
+        let list = if k < end { sums } else { before };
+        let want = list.get(k).copied().unwrap_or(0);
+        assert_eq!(rt; out[k] as Number, want, "{c} at {k} up to {end}");
+    }
+    Ok(())
+}
+
+/// Adds `c` times the first members of a drawn row, of each of the lengths, to a drawn row.
+fn check_factor<N: Numbers>(
+    rt: &impl Abort,
+    alloc: Global,
+    field: &BaseField,
+    plain: &Residues<'_, N>,
+    c: Number,
+) -> Result<(), Fail> {
+    let before = drawn(alloc, plain, 1, PLACE + MOST)?;
+    let added = drawn(alloc, plain, 2, MOST)?;
+    let sums = sums(alloc, plain, c, &before, &added)?;
+    for length in LENGTHS {
+        let row = added.get(..length).ok_or("a row of this length")?;
+        check_row(rt, alloc, field, c, (&before, row), &sums)?;
     }
     Ok(())
 }
@@ -76,8 +104,7 @@ fn check_field(rt: &impl Abort, alloc: Global, row: &str) -> Result<(), Fail> {
     let field = make_base(alloc, &data)?;
     let constants = Modulo(data.p as Number);
     let plain = Residues::new(&constants, &data.modulus);
-    let size = plain.size();
-    for c in [0, 1, size.saturating_sub(1), sample_element(3, size)] {
+    for c in [0, 1, plain.size().saturating_sub(1), plain.sampled(&mut 3)] {
         check_factor(rt, alloc, &field, &plain, c)?;
     }
     Ok(())

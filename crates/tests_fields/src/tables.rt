@@ -1,6 +1,6 @@
 //! Sums, products, negatives and inverses of base fields against the plain computation.
 
-use super::plain::{Modulo, Number, Numbers, Residues, next_sample, sample_element};
+use super::plain::{Modulo, Number, Numbers, Residues};
 use field_tower::{BaseField, Code};
 use ring_core::Field;
 use std::alloc::Global;
@@ -132,14 +132,16 @@ fn check_all<N: Numbers>(rt: &impl Abort, field: &BaseField, plain: &N) -> Resul
     Ok(())
 }
 
-fn check_sample<N: Numbers>(rt: &impl Abort, field: &BaseField, plain: &N) -> Result<(), Fail> {
+fn check_sample<N: Numbers>(
+    rt: &impl Abort,
+    field: &BaseField,
+    plain: &Residues<'_, N>,
+) -> Result<(), Fail> {
     let mut state = 1;
     for _ in 0..500 {
-        state = next_sample(state);
-        let a = sample_element(state, plain.size());
+        let a = plain.sampled(&mut state);
         check_one(rt, field, plain, a)?;
-        state = next_sample(state);
-        check_pair(rt, field, plain, a, sample_element(state, plain.size()))?;
+        check_pair(rt, field, plain, a, plain.sampled(&mut state))?;
     }
     Ok(())
 }

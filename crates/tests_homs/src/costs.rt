@@ -4,7 +4,7 @@ use ring_core::{E, FrobField};
 use std::alloc::Global;
 use std::process::Abort;
 use std::test::Fail;
-use tests_support::counting::CountingTower;
+use tests_support::counting::CountingField;
 use tests_support::fields::{elements, tower};
 use tests_support::twisted::row;
 
@@ -21,7 +21,7 @@ fn check_cost<K: FrobField>(
     d: usize,
 ) -> Result<(), Fail> {
     let phi = row(alloc, names, text)?;
-    let counting = CountingTower::new(field);
+    let counting = CountingField::new(field);
     bounded_between(alloc, &counting, &phi, &phi, d)?;
     let n = field.degree() as u64;
     let products = counting.products();

@@ -5,7 +5,7 @@ use ore_poly::{Ore, OreRing};
 use ring_core::{E, FrobField, Ring, power};
 use std::alloc::Global;
 use std::test::Fail;
-use tests_support::counting::{CountingRing, CountingTower};
+use tests_support::counting::{CountingField, CountingRing};
 use tests_support::fields::{prime_field, tower};
 use tests_support::rings::{checked, is_same};
 
@@ -29,7 +29,7 @@ fn polynomial_cost<K: FrobField>(
     m: usize,
     n: usize,
 ) -> Result<(u64, u64), Fail> {
-    let counting = CountingTower::new(field);
+    let counting = CountingField::new(field);
     let ring = PolyRing::new(&counting);
     let a = checked(&ring, Poly::from_vec(copies(alloc, c, m)?))?;
     let b = checked(&ring, Poly::from_vec(copies(alloc, c, n)?))?;
@@ -45,7 +45,7 @@ fn twisted_cost<K: FrobField>(
     m: usize,
     n: usize,
 ) -> Result<(u64, u64), Fail> {
-    let counting = CountingTower::new(field);
+    let counting = CountingField::new(field);
     let ring = OreRing::new(&counting);
     let a = checked(&ring, Ore::from_vec(copies(alloc, c, m)?))?;
     let b = checked(&ring, Ore::from_vec(copies(alloc, c, n)?))?;

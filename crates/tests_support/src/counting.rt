@@ -14,13 +14,14 @@ fn count_many(counter: &Cell<u64>, n: usize) {
     counter.set(counter.get().wrapping_add(n as u64));
 }
 
-/// A field that counts its products and its inverses. A row that is added to another counts as one product for each of its
-/// members, whatever the field has for it.
+/// A field that counts its products, its inverses, and the steps of its Frobenius where it has one. A row that is added to
+/// another counts as one product for each of its members, whatever the field has for it.
 #[derive(Drop)]
 pub struct CountingField<'k, K: Field> {
     field: &'k K,
     products: Cell<u64>,
     inverses: Cell<u64>,
+    steps: Cell<u64>,
 }
 
 impl<'k, K: Field> Model for CountingField<'k, K> {
@@ -38,6 +39,7 @@ impl<'k, K: Field> CountingField<'k, K> {
             field,
             products: Cell::new(0),
             inverses: Cell::new(0),
+            steps: Cell::new(0),
         }
     }
 
@@ -49,6 +51,11 @@ impl<'k, K: Field> CountingField<'k, K> {
     /// How many inverses were asked for.
     pub fn inverses(&self) -> u64 {
         self.inverses.get()
+    }
+
+    /// How many times the Frobenius was asked for.
+    pub fn steps(&self) -> u64 {
+        self.steps.get()
     }
 }
 
@@ -103,134 +110,36 @@ impl<'k, K: Field> Field for CountingField<'k, K> {
     ghost laws = { λ k. K.laws k };
 }
 
-/// A field with a Frobenius that counts its products, its inverses and the steps of its Frobenius, and apart from them
-/// the products of its base.
-#[derive(Drop)]
-pub struct CountingTower<'k, K: FrobField> {
-    field: CountingField<'k, K>,
-    base: CountingField<'k, K::Base>,
-    steps: Cell<u64>,
-}
-
-impl<'k, K: FrobField> Model for CountingTower<'k, K> {
-    ghost Value = { K };
-
-    ghost view = { λ c. c.field };
-
-    ghost invariant = { λ c. c.base ≡ K.base_of c.field };
-}
-
-impl<'k, K: FrobField> CountingTower<'k, K> {
-    /// The field, with nothing counted.
-    pub fn new(field: &'k K) -> CountingTower<'k, K>
-        ensures { result ≡ field.now }
-    {
-        CountingTower {
-            field: CountingField::new(field),
-            base: CountingField::new(field.base()),
-            steps: Cell::new(0),
-        }
-    }
-
-    /// How many products were asked for.
-    pub fn products(&self) -> u64 {
-        self.field.products()
-    }
-
-    /// How many inverses were asked for.
-    pub fn inverses(&self) -> u64 {
-        self.field.inverses()
-    }
-
-    /// How many times the Frobenius was asked for.
-    pub fn steps(&self) -> u64 {
-        self.steps.get()
-    }
-
-    /// How many products of the base were asked for.
-    pub fn base_products(&self) -> u64 {
-        self.base.products()
-    }
-}
-
-impl<'k, K: FrobField> Field for CountingTower<'k, K> {
-    type Elem = E<K>;
-
-    ghost ops = { λ k. K.ops k };
-
-    ghost inv_of = { λ k. K.inv_of k };
-
-    ghost ring = { λ k. K.ring k };
-
-    fn is_elem(&self, a: E<K>) -> bool {
-        self.field.is_elem(a)
-    }
-
-    fn zero(&self) -> E<K> {
-        self.field.zero()
-    }
-
-    fn one(&self) -> E<K> {
-        self.field.one()
-    }
-
-    fn add(&self, a: E<K>, b: E<K>) -> E<K> {
-        self.field.add(a, b)
-    }
-
-    fn neg(&self, a: E<K>) -> E<K> {
-        self.field.neg(a)
-    }
-
-    fn mul(&self, a: E<K>, b: E<K>) -> E<K> {
-        self.field.mul(a, b)
-    }
-
-    fn inv(&self, a: E<K>) -> Option<E<K>> {
-        self.field.inv(a)
-    }
-
-    fn equal(&self, a: E<K>, b: E<K>) -> bool {
-        self.field.equal(a, b)
-    }
-
-    fn add_row(&self, out: &mut [E<K>], i: usize, c: E<K>, row: &[E<K>]) {
-        self.field.add_row(out, i, c, row)
-    }
-
-    ghost laws = { λ k. K.laws k };
-}
-
-impl<'k, K: FrobField> FrobField for CountingTower<'k, K> {
-    type Base = CountingField<'k, K::Base>;
+impl<'k, K: FrobField> FrobField for CountingField<'k, K> {
+    type Base = K::Base;
 
     ghost base_of = { λ k. K.base_of k };
 
     ghost frob_ops = { λ k. K.frob_ops k };
 
-    fn base(&self) -> &CountingField<'k, K::Base> {
-        &self.base
+    fn base(&self) -> &K::Base {
+        self.field.base()
     }
 
     fn degree(&self) -> usize {
-        self.field.field.degree()
+        self.field.degree()
     }
 
     fn embed(&self, b: B<K>) -> E<K> {
-        self.field.field.embed(b)
+        self.field.embed(b)
     }
 
     fn frob(&self, c: E<K>, i: usize) -> E<K> {
         count_one(&self.steps);
-        self.field.field.frob(c, i)
+        self.field.frob(c, i)
     }
 
     fn coord(&self, c: E<K>, j: usize) -> B<K> {
-        self.field.field.coord(c, j)
+        self.field.coord(c, j)
     }
 
     fn of_coords(&self, list: &[B<K>]) -> E<K> {
-        self.field.field.of_coords(list)
+        self.field.of_coords(list)
     }
 
     ghost frob_laws = { λ k. K.frob_laws k };

@@ -6,7 +6,7 @@ use Rattle.residue_field.specs.declared.TopElem.{TopElem}
 use Rattle.residue_field.specs.Residue.{constant_at, times_x}
 use Rattle.field_tower.specs.steps.Places.{stored}
 
--- Sixteen times the number.
+-- The number in each of sixteen lanes.
 abbrev pub sixteen : ℕ → List ℕ
 sixteen c = replicate 16 c
 
