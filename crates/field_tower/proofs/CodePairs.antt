@@ -15,7 +15,7 @@ use Rattle.residue_field.proofs.DigitLaws.{code_stores}
 use Rattle.residue_field.proofs.Storage.{moved_in, moved_nonzero, moved_product, no_pair_moved}
 use Rattle.field_tower.specs.declared.size.TheConstants.{CODES}
 use Rattle.field_tower.specs.steps.Places.{IsModulus, stored_ops}
-use Rattle.field_tower.specs.steps.Constants.{IsFieldOfCodes}
+use Rattle.field_tower.specs.Constants.{IsFieldOfCodes}
 use Rattle.field_tower.specs.Pairs.{IsPair}
 use Rattle.field_tower.proofs.PowerSteps.{power_large}
 use Rattle.field_tower.proofs.Stored.{modulus_monic, stores_of}

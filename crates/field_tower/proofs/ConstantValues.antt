@@ -9,7 +9,7 @@ use Rattle.residue_field.proofs.Characteristic.{prime_finite, prime_nth}
 use Rattle.residue_field.proofs.BaseLaws.{base_ring, base_commutes}
 use Rattle.residue_field.proofs.BaseFinite.{base_finite, base_nth}
 use Rattle.field_tower.specs.declared.size.TheConstants.{CODES}
-use Rattle.field_tower.specs.steps.Constants.{IsFieldOfCodes}
+use Rattle.field_tower.specs.Constants.{IsFieldOfCodes}
 
 pub code_elem : (r : RingOps ℕ) (q : ℕ) → IsFieldOfCodes r q → (i : ℕ) → i < q → IsElem r i
 code_elem r q codes i l = subst (IsElem r) (codes.nth i l) (codes.finite.counted.nth i).1

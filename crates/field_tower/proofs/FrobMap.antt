@@ -19,7 +19,7 @@ use Rattle.residue_field.proofs.TopLaws.{IsTopShape, top_shape_ring, top_stored,
 use Rattle.residue_field.proofs.TopFrob.{top_frob_field, frob_places}
 use Rattle.ring_core.proofs.Twist.{frob_mod}
 use Rattle.field_tower.specs.steps.Places.{IsStored, stored, stored_ops}
-use Rattle.field_tower.specs.steps.Kernel.{letter_power, letter_image}
+use Rattle.field_tower.specs.steps.LetterPowers.{letter_power, letter_image}
 use Rattle.field_tower.specs.steps.Images.{frob_image, image_at, combined_images}
 use Rattle.field_tower.proofs.Stored.{stored_from}
 use Rattle.field_tower.proofs.PowerSteps.{power_none, power_once, power_size}

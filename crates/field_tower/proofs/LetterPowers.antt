@@ -15,10 +15,10 @@ use Rattle.residue_field.specs.steps.Stored.{residue_unit, IsMonic, IsPlaces}
 use Rattle.residue_field.proofs.Act.{shift, x_act, act, constant, x-eq, x-zero, act-none}
 use Rattle.residue_field.proofs.Reduce.{Residue}
 use Rattle.residue_field.proofs.ResidueRing.{modulus_on, value_on, value-pack, product-is, product-in, times-x-value, residue_ring, residue_commutes}
-use Rattle.residue_field.proofs.Coordinates.{unit-in, place-unit}
+use Rattle.residue_field.proofs.ResidueAlgebra.{unit-in, place-unit}
 use Rattle.residue_field.specs.TopElem.{top_places}
 use Rattle.field_tower.specs.steps.Places.{IsModulus, stored_ops}
-use Rattle.field_tower.specs.steps.Kernel.{letter_power, letter_image}
+use Rattle.field_tower.specs.steps.LetterPowers.{letter_power, letter_image}
 use Rattle.field_tower.specs.steps.Lanes.{letter_residue}
 use Rattle.field_tower.proofs.Letter.{minus_none}
 use Rattle.field_tower.proofs.Stored.{modulus_monic, stores_of, stored_ring}

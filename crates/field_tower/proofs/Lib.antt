@@ -22,6 +22,7 @@ pub mod TopValues
 pub mod FrobMap
 pub mod Norm
 pub mod TopNorm
+pub mod UnitLetters
 pub mod Kernels
 pub mod PairValues
 pub mod ConstantValues

@@ -1,6 +1,7 @@
 -- What the functions behind the public calls do, which only their own contracts cite.
 pub mod Places
-pub mod Constants
+pub mod Algebra
+pub mod LetterPowers
 pub mod Kernel
 pub mod Images
 pub mod Norm

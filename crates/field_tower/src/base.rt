@@ -14,11 +14,12 @@ ghost use Rattle.field_tower.specs.Pairs.{IsPair};
 ghost use Rattle.field_tower.specs.MakeBase.{MakesBase, IsBaseOf, reduced as reduced_list};
 ghost use Rattle.field_tower.specs.steps.Parts.{IsFaultOf};
 
-use super::accept::{find_pair, letter_images};
+use super::accept::{find_pair, unit_powers};
 use super::fault::BaseFault;
 use super::logs::{ProductKind, Products, made_products};
 use super::prime::PrimeField;
 use super::remainders::{less_once, remainder};
+use super::residue_ring::Residues;
 use super::row_sums::add_multiple;
 use super::size::{is_listed, size};
 use super::tables::{SumKind, Sums, code_at, code_negative, code_product, code_sum, made_sums};
@@ -258,8 +259,12 @@ fn code_pair(
     ensures { let k = base_ops prime.now.p (length modulus.now - 2) modulus.now in
         IfOk result (λ o. MatchOption o (HasNoPair k) (λ pair. IsPair k pair.0 pair.1)) }
 {
-    let powers = letter_images(alloc, prime, prime.p, modulus)?;
-    let Some((a, b)) = find_pair(alloc, prime, prime.p, modulus, &powers)? else {
+    let ring = Residues {
+        field: prime,
+        modulus,
+    };
+    let powers = unit_powers(alloc, &ring, prime.p)?;
+    let Some((a, b)) = find_pair(alloc, &ring, prime.p, &powers)? else {
         return Ok(None);
     };
     let left = code_at(prime, modulus, a);

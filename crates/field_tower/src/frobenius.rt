@@ -4,9 +4,8 @@ ghost use Rattle.residue_field.specs.Base.{ops_of, size_of};
 ghost use Rattle.residue_field.specs.Top.{IsTop};
 ghost use Rattle.field_tower.specs.steps.Places.{IsModulus};
 ghost use Rattle.field_tower.specs.steps.Images.{frob_image};
-ghost use Rattle.field_tower.specs.steps.Kernel.{letter_image};
+ghost use Rattle.field_tower.specs.steps.LetterPowers.{letter_image};
 
-use super::accept::unit;
 use super::base::BaseField;
 use super::products;
 use residue_field::{Code, TopElem};
@@ -31,7 +30,7 @@ fn next_image(
     ensures { result ≡ frob_image base.now n modulus.now m }
 {
     if m < n {
-        return unit(base, n, m);
+        return places::unit(base, n, m);
     }
     if m < 2 * n {
         return powers[m - n];

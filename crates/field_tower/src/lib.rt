@@ -5,6 +5,7 @@
 #![tactic(auto)]
 
 mod accept;
+mod algebra;
 mod base;
 mod bits;
 mod codes;
@@ -20,6 +21,7 @@ mod powers;
 mod prime;
 mod products;
 mod remainders;
+mod residue_ring;
 mod residues;
 mod row_products;
 mod row_sums;
@@ -27,6 +29,8 @@ mod size;
 mod tables;
 mod tower;
 
+pub use accept::{find_pair, unit_powers};
+pub use algebra::Algebra;
 pub use base::BaseField;
 pub use fault::{BaseFault, TowerFault};
 pub use prime::PrimeField;

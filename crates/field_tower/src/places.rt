@@ -1,13 +1,12 @@
 ghost use Rattle.std.specs.Prelude.{◌≡◌, ℕ, ◌-◌, ◌*◌, ◌^◌, ◌≤◌, ◌<◌, List, length, drop, cond, nat_eq, true};
 ghost use Rattle.ring_core.specs.Ring.{IsElem};
 ghost use Rattle.ring_core.specs.Coeffs.{coeff, are_elems, same_lists};
-ghost use Rattle.ring_core.specs.Powers.{power_of};
 ghost use Rattle.residue_field.specs.declared.TheConstants.{WIDTH};
-ghost use Rattle.residue_field.specs.Residue.{constant_at, residue_letter};
+ghost use Rattle.residue_field.specs.Residue.{constant_at};
 ghost use Rattle.residue_field.specs.TopElem.{are_zeros, top_places};
+ghost use Rattle.residue_field.specs.steps.Stored.{residue_unit};
 ghost use Rattle.field_tower.specs.steps.Places.{IsModulus, stored, stored_ops};
 
-use super::residues::multiply;
 use residue_field::{Code, TopElem, WIDTH};
 use ring_core::Field;
 use ring_core::lists::{all_elems, coeff_at, equal_lists};
@@ -60,6 +59,17 @@ pub(crate) fn constant<F: Field<Elem = Code>>(field: &F, c: Code) -> TopElem
     TopElem(places)
 }
 
+/// The residue of the power `j` of the letter, modulo a polynomial of degree `n`.
+pub(crate) fn unit<F: Field<Elem = Code>>(field: &F, n: usize, j: usize) -> TopElem
+    requires place { j < n }
+    requires room { n ≤ WIDTH }
+    ensures { result ≡ residue_unit (F.ops field.now) (top_places (F.ops field.now) (n - 1)) j }
+{
+    let mut list = zeros(field);
+    list[j] = field.one();
+    TopElem(list)
+}
+
 /// Whether the residue `a` is zero.
 pub(crate) fn is_zero<F: Field<Elem = Code>>(field: &F, a: TopElem) -> bool
     requires { are_elems (F.ops field.now) a.0 ≡ true }
@@ -88,99 +98,4 @@ pub(crate) fn one<F: Field<Elem = Code>>(field: &F) -> TopElem
     ensures elem { (modulus : List ℕ) → IsModulus (F.ops field.now) modulus → IsElem (stored_ops (F.ops field.now) modulus) result }
 {
     constant(field, field.one())
-}
-
-/// The sum of residues.
-pub(crate) fn add<F: Field<Elem = Code>>(
-    field: &F,
-    modulus: &[Code],
-    a: TopElem,
-    b: TopElem,
-) -> TopElem
-    requires monic { IsModulus (F.ops field.now) modulus.now }
-    requires left { IsElem (stored_ops (F.ops field.now) modulus.now) a }
-    requires right { IsElem (stored_ops (F.ops field.now) modulus.now) b }
-    ensures value { result ≡ (stored_ops (F.ops field.now) modulus.now).add a b }
-    ensures elem { IsElem (stored_ops (F.ops field.now) modulus.now) result }
-{
-    let mut places = zeros(field);
-    for i in 0..modulus.len() - 1 {
-        places[i] = field.add(coeff_at(field, &a.0, i), coeff_at(field, &b.0, i));
-    }
-    TopElem(places)
-}
-
-/// The negative of a residue.
-pub(crate) fn neg<F: Field<Elem = Code>>(field: &F, modulus: &[Code], a: TopElem) -> TopElem
-    requires monic { IsModulus (F.ops field.now) modulus.now }
-    requires elem { IsElem (stored_ops (F.ops field.now) modulus.now) a }
-    ensures value { result ≡ (stored_ops (F.ops field.now) modulus.now).neg a }
-    ensures elem { IsElem (stored_ops (F.ops field.now) modulus.now) result }
-{
-    let mut places = zeros(field);
-    for i in 0..modulus.len() - 1 {
-        places[i] = field.neg(coeff_at(field, &a.0, i));
-    }
-    TopElem(places)
-}
-
-/// The product of residues.
-pub(crate) fn mul<F: Field<Elem = Code>>(
-    field: &F,
-    modulus: &[Code],
-    a: TopElem,
-    b: TopElem,
-) -> TopElem
-    requires monic { IsModulus (F.ops field.now) modulus.now }
-    requires left { IsElem (stored_ops (F.ops field.now) modulus.now) a }
-    requires right { IsElem (stored_ops (F.ops field.now) modulus.now) b }
-    ensures value { result ≡ (stored_ops (F.ops field.now) modulus.now).mul a b }
-    ensures elem { IsElem (stored_ops (F.ops field.now) modulus.now) result }
-{
-    let mut places = zeros(field);
-    multiply(field, modulus, &a.0, &b.0, &mut places);
-    TopElem(places)
-}
-
-/// The residue `a` multiplied `k` times, one for `k = 0`: by squares, at most two products for each
-/// binary digit of `k`.
-pub(crate) fn power<F: Field<Elem = Code>>(
-    field: &F,
-    modulus: &[Code],
-    a: TopElem,
-    k: u32,
-) -> TopElem
-    requires monic { IsModulus (F.ops field.now) modulus.now }
-    requires elem { IsElem (stored_ops (F.ops field.now) modulus.now) a }
-    ensures value { result ≡ power_of (stored_ops (F.ops field.now) modulus.now) a k }
-    ensures elem { IsElem (stored_ops (F.ops field.now) modulus.now) result }
-{
-    if k == 0 {
-        return one(field);
-    }
-    if k == 1 {
-        return a;
-    }
-    let half = power(field, modulus, a, k / 2);
-    let square = mul(field, modulus, half, half);
-    if k % 2 == 0 {
-        square
-    } else {
-        mul(field, modulus, square, a)
-    }
-}
-
-/// The residue of the letter. Modulo a polynomial of degree 1 it is minus the constant of the modulus.
-pub(crate) fn letter<F: Field<Elem = Code>>(field: &F, modulus: &[Code]) -> TopElem
-    requires { IsModulus (F.ops field.now) modulus.now }
-    ensures { let r = F.ops field.now in
-        result ≡ residue_letter r (length modulus.now - 2) (coeff r modulus.now) (top_places r (length modulus.now - 2)) }
-{
-    let mut places = zeros(field);
-    if modulus.len() == 2 {
-        places[0] = field.neg(coeff_at(field, modulus, 0));
-    } else {
-        places[1] = field.one();
-    }
-    TopElem(places)
 }

@@ -8,9 +8,8 @@ ghost use Rattle.ring_core.specs.Powers.{power_of};
 ghost use Rattle.residue_field.specs.Base.{ops_of, size_of};
 ghost use Rattle.field_tower.specs.steps.Places.{IsModulus, stored_ops};
 ghost use Rattle.field_tower.specs.steps.Lanes.{letter_row};
-ghost use Rattle.field_tower.specs.steps.Kernel.{letter_image};
+ghost use Rattle.field_tower.specs.steps.LetterPowers.{letter_image};
 
-use super::accept::unit;
 use super::base::BaseField;
 use super::{places, products};
 use residue_field::{Code, TopElem};
@@ -57,7 +56,7 @@ fn next_image(
     ensures { result ≡ letter_image (ops_of base.now) (size_of base.now) modulus.now j }
 {
     if j < 2 {
-        let letter = unit(base, modulus.len() - 1, j);
+        let letter = places::unit(base, modulus.len() - 1, j);
         return power(base, modulus, letters, letter, base.q());
     }
     products::mul(base, modulus, letters, images[1], images[j - 1])

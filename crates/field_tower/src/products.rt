@@ -9,8 +9,10 @@ ghost use Rattle.field_tower.specs.steps.Places.{IsModulus, IsStored, stored, st
 ghost use Rattle.field_tower.specs.steps.Lanes.{letter_row};
 ghost use Rattle.field_tower.specs.steps.Images.{image_at, combined_images};
 
+use super::algebra::Algebra;
 use super::base::BaseField;
-use super::{bits, modular, places, row_products};
+use super::residue_ring::Residues;
+use super::{bits, modular, row_products};
 use residue_field::{Code, TopElem};
 
 /// The product of residues, where `letters` holds the residues of the powers of the letter from the degree of the
@@ -46,7 +48,11 @@ pub(crate) fn neg(base: &BaseField, modulus: &[Code], a: TopElem) -> TopElem
     if base.p() == 2 {
         a
     } else {
-        places::neg(base, modulus, a)
+        let ring = Residues {
+            field: base,
+            modulus,
+        };
+        ring.neg(a)
     }
 }
 

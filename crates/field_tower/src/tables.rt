@@ -9,9 +9,10 @@ ghost use Rattle.residue_field.specs.Base.{base_ops};
 ghost use Rattle.field_tower.specs.declared.size.TheConstants.{CODES};
 ghost use Rattle.field_tower.specs.steps.Places.{IsModulus, stored_ops};
 
+use super::algebra::Algebra;
 use super::codes::{digits, number};
-use super::places;
 use super::prime::PrimeField;
+use super::residue_ring::Residues;
 use residue_field::{Code, TopElem};
 use ring_core::NoMemory;
 use std::alloc::Global;
@@ -75,7 +76,11 @@ pub(crate) fn code_sum(prime: &PrimeField, modulus: &[Code], a: usize, b: usize)
     }
     let left = residue_at(prime, modulus, a);
     let right = residue_at(prime, modulus, b);
-    code_at(prime, modulus, places::add(prime, modulus, left, right))
+    let ring = Residues {
+        field: prime,
+        modulus,
+    };
+    code_at(prime, modulus, ring.add(left, right))
 }
 
 /// The negative of the code `a`.
@@ -86,7 +91,11 @@ pub(crate) fn code_negative(prime: &PrimeField, modulus: &[Code], a: usize) -> C
     ensures { result ≡ (base_ops prime.now.p (length modulus.now - 2) modulus.now).neg a }
 {
     let residue = residue_at(prime, modulus, a);
-    code_at(prime, modulus, places::neg(prime, modulus, residue))
+    let ring = Residues {
+        field: prime,
+        modulus,
+    };
+    code_at(prime, modulus, ring.neg(residue))
 }
 
 /// The product of the codes `a` and `b`.
@@ -99,7 +108,11 @@ pub(crate) fn code_product(prime: &PrimeField, modulus: &[Code], a: usize, b: us
 {
     let left = residue_at(prime, modulus, a);
     let right = residue_at(prime, modulus, b);
-    code_at(prime, modulus, places::mul(prime, modulus, left, right))
+    let ring = Residues {
+        field: prime,
+        modulus,
+    };
+    code_at(prime, modulus, ring.mul(left, right))
 }
 
 /// The place of the top digit of `a`, where `place` is that of the number before; that it is so serves speed alone.

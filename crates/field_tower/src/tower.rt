@@ -11,16 +11,18 @@ ghost use Rattle.field_tower.specs.steps.Places.{IsModulus};
 ghost use Rattle.field_tower.specs.Pairs.{IsPair};
 ghost use Rattle.field_tower.specs.steps.Images.{frob_image};
 ghost use Rattle.field_tower.specs.steps.Lanes.{letter_row};
-ghost use Rattle.field_tower.specs.steps.Kernel.{letter_image};
+ghost use Rattle.field_tower.specs.steps.LetterPowers.{letter_image};
 ghost use Rattle.field_tower.specs.steps.Norm.{conjugate_product};
 ghost use Rattle.minimal_poly.specs.MinPoly.{IsMinPoly};
 
 use super::accept::find_pair;
+use super::algebra::Algebra;
 use super::base::BaseField;
 use super::fault::TowerFault;
 use super::frobenius::images;
 use super::letters::letter_rows;
 use super::powers::letter_images;
+use super::residue_ring::Residues;
 use super::{places, products, row_products};
 use fq_poly::Poly;
 use minimal_poly::min_poly;
@@ -74,7 +76,11 @@ fn top_pair(
     ensures { let t = top_ops base.now (n - 1) modulus.now in
         IfOk result (λ o. MatchOption o (HasNoPair t) (λ pair. IsPair t pair.0 pair.1)) }
 {
-    find_pair(alloc, base, base.q(), modulus, powers)
+    let ring = Residues {
+        field: base,
+        modulus,
+    };
+    find_pair(alloc, &ring, base.q(), powers)
 }
 
 /// What a top field keeps beside its base.
@@ -213,7 +219,11 @@ impl Tower {
     pub fn letter(&self) -> TopElem
         ensures { result ≡ letter_of self.now }
     {
-        places::letter(&self.base, &self.modulus)
+        let ring = Residues {
+            field: &self.base,
+            modulus: &self.modulus,
+        };
+        ring.letter()
     }
 }
 

@@ -12,7 +12,7 @@ use Rattle.residue_field.proofs.Modular.{prime_ring, prime_commutes}
 use Rattle.residue_field.proofs.Listed.{listed_large}
 use Rattle.residue_field.proofs.DigitLaws.{code_stores, digit_below, number-same, number-digits}
 use Rattle.residue_field.proofs.BaseLaws.{IsBaseShape, base_monic}
-use Rattle.residue_field.proofs.Embedded.{residue_embedding}
+use Rattle.residue_field.proofs.ResidueAlgebra.{residue_embedding}
 
 -- of degree one the codes are the numbers modulo p
 module _ (p : ℕ) (modulus : List ℕ) (shape : IsBaseShape p 0 modulus) where

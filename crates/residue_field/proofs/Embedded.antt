@@ -1,20 +1,14 @@
--- The constants within their residues: a one to one map of rings, whose products scale each coefficient;
--- the power by the number of constants is linear over them; and the test by which the residues are a field.
-use Rattle.std.proofs.Common.{◌≡◌, ℕ, zero, suc, ◌+◌, ◌<◌, true, sym, refl, ap, ap₂, ◌∙◌, arith}
+-- The constants within their residues by coefficients: products with a constant scale each coefficient, and
+-- sums go by coefficients.
+use Rattle.std.proofs.Common.{◌≡◌, ℕ, suc, ◌+◌, ◌<◌, true, ap, ◌∙◌}
 use Rattle.ring_core.specs.Ring.{RingOps, IsElem, IsRing, IsCommutative}
-use Rattle.ring_core.specs.Powers.{power_of}
-use Rattle.ring_core.proofs.Carrier.{RingOn, Element, elements, add_zero, mul_zero}
-use Rattle.finite_ring.specs.Finite.{HasNoPair}
-use Rattle.finite_ring.proofs.PowerMaps.{IsEmbedding, IsPowerLinear}
+use Rattle.ring_core.proofs.Carrier.{RingOn, Element, elements, add_zero}
 use Rattle.finite_ring.proofs.FieldOf.{commute_on}
-use Rattle.finite_ring.proofs.Frobenius.{IsFiniteField}
-use Rattle.finite_ring.proofs.Embedding.{power_linear, accepted_field}
 use Rattle.residue_field.specs.Residue.{constant_at, residue, product, Places, residue_ops}
 use Rattle.residue_field.specs.steps.Stored.{IsMonic, IsPlaces}
 use Rattle.residue_field.proofs.Act.{act, constant, x-eq, x-zero, act-none}
 use Rattle.residue_field.proofs.Reduce.{Residue, constant_residue}
-use Rattle.residue_field.proofs.ResidueRing.{elements_set, modulus_on, has_top, value_on, constant-is, constant-in, value-pack, product-is, product-in, residue_ring, residue_commutes}
-use Rattle.residue_field.proofs.Counted.{residue_counted}
+use Rattle.residue_field.proofs.ResidueRing.{elements_set, modulus_on, has_top, value_on, constant-is, constant-in, value-pack, product-is, product-in}
 
 -- a constant acts by scaling
 constant-act : {M : Type 0} (R : RingOn M) (commutes : (a b : M) → R.mul a b ≡ R.mul b a) (n : ℕ) (f : ℕ → M) (k : ℕ) (b : M) (v : ℕ → M) (i : ℕ)
@@ -56,49 +50,3 @@ module _ {E T : Type 0} (r : RingOps E) (h : IsRing r) (commutes : IsCommutative
   pub place-add : (x y : T) (i : ℕ) → c.is_elem x ≡ true → c.is_elem y ≡ true → i < suc n
       → c.place ((residue_ops r n f c).add x y) i ≡ r.add (c.place x i) (c.place y i)
   place-add x y i s t l = p.place_pack _ i (λ j. h.closed.add_in _ _ (p.place_in x j s) (p.place_in y j t)) l
-
-  constant-add : (a b : E) (i : ℕ) → constant_at r (r.add a b) i ≡ r.add (constant_at r a i) (constant_at r b i)
-  constant-add a b zero = refl
-  constant-add a b (suc i) = sym (h.zero_add r.zero h.closed.zero_in)
-
-  constant-mul : (a b : Element r) (i : ℕ) → constant_at r (r.mul a.0 b.0) i ≡ r.mul a.0 (constant_at r b.0 i)
-  constant-mul a b zero = refl
-  constant-mul a b (suc i) = sym (ap (λ x. x.0) (mul_zero (elements h) a))
-
-  pub residue_embedding : IsEmbedding r (residue_ops r n f c) embed_on
-  residue_embedding =
-      let ring = residue_ring r h commutes n f m c p in
-      record {
-        embed_in = embed-in;
-        embed_one = refl;
-        embed_add = λ a b s t.
-            let sum_in = h.closed.add_in a b s t in
-            p.place_inj _ _ (embed-in (r.add a b) sum_in) (ring.closed.add_in _ _ (embed-in a s) (embed-in b t)) (λ i l.
-            place-embed (r.add a b) sum_in i l ∙ constant-add a b i
-            ∙ sym (place-add (embed_on a) (embed_on b) i (embed-in a s) (embed-in b t) l
-            ∙ ap₂ r.add (place-embed a s i l) (place-embed b t i l)));
-        embed_mul = λ a b s t.
-            let product_in = h.closed.mul_in a b s t in
-            p.place_inj _ _ (embed-in (r.mul a b) product_in) (ring.closed.mul_in _ _ (embed-in a s) (embed-in b t)) (λ i l.
-            place-embed (r.mul a b) product_in i l ∙ constant-mul (a, s) (b, t) i
-            ∙ sym (place-scale a (embed_on b) i s (embed-in b t) l ∙ ap (r.mul a) (place-embed b t i l)));
-        embed_inj = λ a b s t e.
-            let low : 0 < suc n = omega arith in
-            sym (place-embed a s 0 low) ∙ ap (λ x. c.place x 0) e ∙ place-embed b t 0 low;
-      }
-
-  module _ (q : ℕ) (k : IsFiniteField (elements h) q) where
-    pub residue_linear : IsPowerLinear r (residue_ops r n f c) embed_on q
-    residue_linear =
-        power_linear r h (residue_ops r n f c) (residue_ring r h commutes n f m c p) (residue_commutes r h commutes n f m c p)
-        embed_on residue_embedding q k
-
-    -- Where only zero has the power q zero, and the power q fixes only constants, no two nonzero residues
-    -- multiply to zero.
-    pub residue_accepted : ((x : T) → c.is_elem x ≡ true → power_of (residue_ops r n f c) x q ≡ (residue_ops r n f c).zero → x ≡ (residue_ops r n f c).zero)
-        → ((x : T) → c.is_elem x ≡ true → power_of (residue_ops r n f c) x q ≡ x → (b : E) × IsElem r b × (x ≡ embed_on b))
-        → HasNoPair (residue_ops r n f c)
-    residue_accepted =
-        let ring = residue_ring r h commutes n f m c p in
-        accepted_field r h (residue_ops r n f c) ring (residue_commutes r h commutes n f m c p) embed_on residue_embedding q k
-        _ (residue_counted r h n f c p q k.counted ring)

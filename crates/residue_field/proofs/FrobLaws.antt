@@ -19,7 +19,8 @@ use Rattle.residue_field.specs.Residue.{constant_at, Places, residue_ops, HasFie
 use Rattle.residue_field.specs.steps.Stored.{IsMonic, IsPlaces}
 use Rattle.residue_field.proofs.ResidueRing.{residue_ring, residue_commutes}
 use Rattle.residue_field.proofs.Counted.{residue_counted}
-use Rattle.residue_field.proofs.Embedded.{residue_embedding, embed_on, place-add, place-scale}
+use Rattle.residue_field.proofs.Embedded.{embed_on, place-add, place-scale}
+use Rattle.residue_field.proofs.ResidueAlgebra.{residue_embedding}
 
 -- What the residues have beside their operations, over q constants.
 abbrev pub residue_frob : {E T : Type 0} → RingOps E → ℕ → (ℕ → E) → Places E T → ℕ → ℕ → FrobOps T E

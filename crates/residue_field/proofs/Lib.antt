@@ -4,12 +4,14 @@ pub mod ResidueRing
 pub mod Modular
 pub mod Listed
 pub mod DigitLaws
+pub mod AlgebraLaws
 pub mod TopPlaces
 pub mod Counted
 pub mod BaseLaws
 pub mod BaseForms
 pub mod TopLaws
 pub mod Embedded
+pub mod ResidueAlgebra
 pub mod FrobLaws
 pub mod Characteristic
 pub mod BaseFinite
@@ -17,7 +19,5 @@ pub mod TopFrob
 pub mod Rows
 mod Examples
 pub mod Quotient
-pub mod Coordinates
-pub mod Acceptance
 pub mod Letter
 pub mod Storage

@@ -7,6 +7,7 @@ use Rattle.residue_field.specs.declared.TopElem.{TopElem}
 use Rattle.residue_field.specs.Sizes.{most_places}
 use Rattle.finite_ring.specs.Finite.{HasNoPair}
 use Rattle.residue_field.specs.Residue.{constant_at, HasFieldPowers}
+use Rattle.residue_field.specs.Algebra.{residue_coords}
 use Rattle.residue_field.specs.steps.Stored.{residue_unit}
 use Rattle.residue_field.specs.Base.{Base, ops_of, size_of}
 use Rattle.residue_field.specs.TopElem.{top_places}
@@ -14,8 +15,8 @@ use Rattle.residue_field.specs.Top.{Top, top_ops, ops_of_top, embed_of, from_coo
 use Rattle.residue_field.proofs.BaseLaws.{base_ring, base_commutes}
 use Rattle.residue_field.proofs.BaseFinite.{base_finite}
 use Rattle.residue_field.proofs.TopLaws.{IsTopShape, top_monic, top_stored, top_degree, top_shape_of}
-use Rattle.residue_field.proofs.Coordinates.{linear_places}
-use Rattle.residue_field.proofs.Embedded.{residue_accepted}
+use Rattle.residue_field.proofs.AlgebraLaws.{linear_coords}
+use Rattle.residue_field.proofs.ResidueAlgebra.{residue_algebra, residue_accepted}
 use Rattle.residue_field.proofs.FrobLaws.{residue_frob_field, residue_powers}
 
 pub top_frob_field : (t : Top) → IsFrobField (ops_of_top t) (ops_of t.base) (frob_of_top t)
@@ -55,8 +56,9 @@ frob_places t x i l e low =
     let n = t.n - 1 in
     let laws = top_frob_field t in
     let frob = (frob_of_top t).frob in
-    linear_places (ops_of t.base) (base_ring t.base) (base_commutes t.base) n _ (top_monic t.base n t.modulus shape)
-    (top_places (ops_of t.base) n) (top_stored t.base n t.modulus shape) (λ y. frob y i)
+    let r = ops_of t.base in
+    let law = residue_algebra r (base_ring t.base) (base_commutes t.base) n (coeff r t.modulus) (top_monic t.base n t.modulus shape) (top_places r n) (top_stored t.base n t.modulus shape) in
+    linear_coords r (base_ring t.base) _ (residue_coords r n (top_places r n)) law (λ y. frob y i)
     (record {
       map_in = λ y d. laws.frob_in y i d;
       map_add = λ y z d g. laws.frob_add y z i d g;

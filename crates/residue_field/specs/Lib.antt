@@ -1,5 +1,6 @@
 pub mod Sizes
 pub mod Residue
+pub mod Algebra
 pub mod Prime
 pub mod Digits
 pub mod Base

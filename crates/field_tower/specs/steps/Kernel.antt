@@ -1,74 +1,58 @@
--- The power of residues by the number of constants, as a linear map with its rows and its kernel.
-use Rattle.std.specs.Prelude.{◌≡◌, ◌≢◌, ℕ, ◌-◌, ◌<◌, ◌≤◌, List, length}
+-- The power of an algebra by the number of constants, as a linear map with its rows and its kernel.
+use Rattle.std.specs.Prelude.{◌≡◌, ◌≢◌, ℕ, ◌<◌, ◌≤◌, List, length}
 use Rattle.ring_core.specs.Ring.{RingOps, IsElem}
-use Rattle.ring_core.specs.Coeffs.{coeff, first_values}
+use Rattle.ring_core.specs.Coeffs.{first_values}
 use Rattle.ring_core.specs.Powers.{power_of}
 use Rattle.linear_algebra.specs.Linear.{entry}
-use Rattle.residue_field.specs.declared.TopElem.{TopElem}
-use Rattle.residue_field.specs.steps.Stored.{residue_unit}
-use Rattle.residue_field.specs.TopElem.{top_places}
+use Rattle.residue_field.specs.Algebra.{Coordinates, unit_of}
 use Rattle.field_tower.specs.declared.accept.LinearMap.{LinearMap}
 use Rattle.field_tower.specs.declared.accept.LinearMap.TheVariants.{Power, Difference}
-use Rattle.field_tower.specs.steps.Places.{stored, stored_ops}
 
 -- The power `q` of `x`, or that power less `x`.
-abbrev pub image_of : {E : Type 0} → RingOps E → ℕ → LinearMap → E → E
-image_of r q Power x = power_of r x q
-image_of r q Difference x = r.add (power_of r x q) (r.neg x)
+abbrev pub image_of : {T : Type 0} → RingOps T → ℕ → LinearMap → T → T
+image_of t q Power x = power_of t x q
+image_of t q Difference x = t.add (power_of t x q) (t.neg x)
 
--- The residue with one at place `j` and zero elsewhere, for `j` below `n`: it is that of the power `j` of
--- the letter modulo a polynomial of degree `n`.
-abbrev pub letter_power : RingOps ℕ → ℕ → ℕ → TopElem
-letter_power r n j = residue_unit r (top_places r (n - 1)) j
+-- The coordinates of the image of the element with coordinate one at place `j` and zero at the others.
+abbrev pub image_row : {E T : Type 0} → RingOps E → RingOps T → Coordinates E T → ℕ → LinearMap → ℕ → List E
+image_row r t c q map j = first_values c.dimension (c.coord (image_of t q map (unit_of r c j)))
 
--- The power by `q` of that residue.
-abbrev pub letter_image : RingOps ℕ → ℕ → List ℕ → ℕ → TopElem
-letter_image r q modulus j = power_of (stored_ops r modulus) (letter_power r (length modulus - 1) j) q
+-- The coordinates from the place `low` on are zero.
+abbrev pub IsLow : {E T : Type 0} → RingOps E → Coordinates E T → ℕ → T → Type 0
+IsLow r c low x = (i : ℕ) → low ≤ i → i < c.dimension → c.coord x i ≡ r.zero
 
--- The coefficients of the image of that residue.
-abbrev pub image_row : RingOps ℕ → ℕ → List ℕ → LinearMap → ℕ → List ℕ
-image_row r q modulus map j =
-    let n = length modulus - 1 in
-    first_values n (coeff r (image_of (stored_ops r modulus) q map (letter_power r n j)).0)
+-- Row `i` is zero from the place `low` on.
+abbrev pub IsLowRow : {E : Type 0} → RingOps E → ℕ → List (List E) → ℕ → Type 0
+IsLowRow r low rows i = (k : ℕ) → low ≤ k → entry r rows i k ≡ r.zero
 
--- The coefficients from the place `low` on are zero.
-abbrev pub IsLow : RingOps ℕ → ℕ → TopElem → Type 0
-IsLow r low x = (i : ℕ) → low ≤ i → coeff r x.0 i ≡ r.zero
+-- All rows are.
+abbrev pub AreLow : {E : Type 0} → RingOps E → ℕ → List (List E) → Type 0
+AreLow r low rows = (i : ℕ) → i < length rows → IsLowRow r low rows i
 
--- The residue whose `n` coefficients are row `i`.
-abbrev pub row_residue : RingOps ℕ → ℕ → List (List ℕ) → ℕ → TopElem
-row_residue r n rows i = stored r (n - 1) (entry r rows i)
-
--- All rows are zero from the place `low` on.
-abbrev pub AreLow : RingOps ℕ → ℕ → ℕ → List (List ℕ) → Type 0
-AreLow r n low rows = (i : ℕ) → i < length rows → IsLow r low (row_residue r n rows i)
-
--- `x` is the residue of a row that is not zero from the place `low` on.
-pub record IsAbove (r : RingOps ℕ) (n low : ℕ) (rows : List (List ℕ)) (x : TopElem) : Type 0 where
+-- `x` has a row as its coordinates that is not.
+pub record IsAbove {E T : Type 0} (r : RingOps E) (c : Coordinates E T) (low : ℕ) (rows : List (List E)) (x : T) : Type 0 where
   pub row : ℕ
   pub within : row < length rows
-  pub is : x ≡ row_residue r n rows row
-  pub above : IsLow r low x → ⊥
+  pub is : x ≡ c.of_coords (entry r rows row)
+  pub above : IsLowRow r low rows row → ⊥
 
--- How many places the residues with the image zero use in a field: none, or the one of the constants.
+-- How many coordinates the elements with the image zero use in a field: none, or the one of the constants.
 abbrev pub low_count : LinearMap → ℕ
 low_count Power = 0
 low_count Difference = 1
 
--- Only residues that are zero past those places have the image zero.
-abbrev pub HasLowKernel : RingOps ℕ → ℕ → List ℕ → LinearMap → Type 0
-HasLowKernel r q modulus map =
-    let t = stored_ops r modulus in
-    (x : TopElem) → IsElem t x → image_of t q map x ≡ t.zero → IsLow r (low_count map) x
+-- Only elements that are zero past those places have the image zero.
+abbrev pub HasLowKernel : {E T : Type 0} → RingOps E → RingOps T → Coordinates E T → ℕ → LinearMap → Type 0
+HasLowKernel {E} {T} r t c q map = (x : T) → IsElem t x → image_of t q map x ≡ t.zero → IsLow r c (low_count map) x
 
 -- `x` has the image zero, and isn't zero past those places.
-pub record IsInKernel (r : RingOps ℕ) (q : ℕ) (modulus : List ℕ) (map : LinearMap) (x : TopElem) : Type 0 where
-  pub elem : IsElem (stored_ops r modulus) x
-  pub image : image_of (stored_ops r modulus) q map x ≡ (stored_ops r modulus).zero
-  pub above : IsLow r (low_count map) x → ⊥
+pub record IsInKernel {E T : Type 0} (r : RingOps E) (t : RingOps T) (c : Coordinates E T) (q : ℕ) (map : LinearMap) (x : T) : Type 0 where
+  pub elem : IsElem t x
+  pub image : image_of t q map x ≡ t.zero
+  pub above : IsLow r c (low_count map) x → ⊥
 
 -- `x` is the product `v`, which isn't zero.
-pub record IsNonzero {E : Type 0} (r : RingOps E) (v x : E) : Type 0 where
-  pub elem : IsElem r x
+pub record IsNonzero {T : Type 0} (t : RingOps T) (v x : T) : Type 0 where
+  pub elem : IsElem t x
   pub value : x ≡ v
-  pub nonzero : x ≢ r.zero
+  pub nonzero : x ≢ t.zero

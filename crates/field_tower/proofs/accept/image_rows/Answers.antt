@@ -1,62 +1,69 @@
-use Rattle.std.proofs.Common.{◌≡◌, ◌+◌, ◌-◌, suc, length, [], ◌∷◌, ◌++◌, sym, ap, ap₂, subst, ◌∙◌, arith}
-use Rattle.ring_core.specs.Ring.{IsElem}
+use Rattle.std.proofs.Common.{◌≡◌, ◌<◌, ◌+◌, suc, length, get_or, [], ◌∷◌, ◌++◌, sym, ap, ap₂, ◌∙◌, arith}
+use Rattle.std.proofs.lemmas.List.{get_or_read}
 use Rattle.ring_core.specs.Coeffs.{first_values}
-use Rattle.ring_core.proofs.FirstValues.{values_pushed}
 use Rattle.ring_core.specs.Powers.{power_of}
-use Rattle.field_tower.specs.declared.accept.LinearMap.TheVariants.{Power}
-use Rattle.field_tower.specs.steps.Places.{stored_ops}
-use Rattle.field_tower.specs.steps.Kernel.{image_row, image_of, letter_image, letter_power}
-use Rattle.field_tower.proofs.FrobMap.{image-read, images_count}
-use Rattle.field_tower.proofs.Kernels.{letter_power_in, image_in, image_taken}
+use Rattle.ring_core.proofs.FirstValues.{length-first_values, at-first_values, values_pushed}
+use Rattle.field_tower.specs.UnitPowers.{unit_power}
+use Rattle.field_tower.specs.steps.Kernel.{image_row, image_of}
 use Rattle.field_tower.proofs.accept.image_rows.Goals as goal
 
-pub image-image-requires-clause-elem : goal.image-image-requires-clause-elem
-image-image-requires-clause-elem g c =
-    let r = g.F.Field.ops c.args.field.now in
-    let modulus = c.args.modulus.now in
-    subst (IsElem (stored_ops r modulus)) (sym c.unit.ensures) (letter_power_in r c.args.q c.requires.constants modulus c.requires.monic c.loop-j.j)
+pub offset_bounds-powers-j : goal.offset_bounds-powers-j
+offset_bounds-powers-j g c =
+    let algebra = c.args.algebra.now in
+    let r = g.A.Constants.Field.ops (g.A.Algebra.constants_of algebra) in
+    let coords = g.A.Algebra.coords_of algebra in
+    let count : length c.args.powers.now ≡ coords.dimension =
+    ap length c.requires.powers ∙ length-first_values coords.dimension (unit_power r (g.A.Algebra.ops algebra) coords c.args.q) in
+    omega arith
 
 pub bounds-powers-j : goal.bounds-powers-j
 bounds-powers-j g c =
-    let r = g.F.Field.ops c.args.field.now in
-    let modulus = c.args.modulus.now in
-    let count : length c.args.powers.now ≡ length modulus - 1 = images_count c.args.powers.now (length modulus - 1) (letter_image r c.args.q modulus) c.requires.powers in
+    let algebra = c.args.algebra.now in
+    let r = g.A.Constants.Field.ops (g.A.Algebra.constants_of algebra) in
+    let coords = g.A.Algebra.coords_of algebra in
+    let count : length c.args.powers.now ≡ coords.dimension =
+    ap length c.requires.powers ∙ length-first_values coords.dimension (unit_power r (g.A.Algebra.ops algebra) coords c.args.q) in
     omega arith
 
 pub image-image-requires-clause-power : goal.image-image-requires-clause-power
 image-image-requires-clause-power g c =
-    let r = g.F.Field.ops c.args.field.now in
+    let algebra = c.args.algebra.now in
+    let r = g.A.Constants.Field.ops (g.A.Algebra.constants_of algebra) in
+    let t = g.A.Algebra.ops algebra in
+    let coords = g.A.Algebra.coords_of algebra in
     let q = c.args.q in
-    let modulus = c.args.modulus.now in
-    image-read c.args.powers.now (length modulus - 1) (letter_image r q modulus) c.requires.powers c.loop-j.j (omega arith)
-    ∙ ap (λ x. power_of (stored_ops r modulus) x q) (sym c.unit.ensures)
-
-pub image-image-requires-clause-image : goal.image-image-requires-clause-image
-image-image-requires-clause-image g c =
-    let r = g.F.Field.ops c.args.field.now in
-    let q = c.args.q in
-    let modulus = c.args.modulus.now in
+    let powers = c.args.powers.now in
     let j = c.loop-j.j in
-    let letter = letter_power r (length modulus - 1) j in
-    subst (IsElem (stored_ops r modulus))
-    (sym (image-read c.args.powers.now (length modulus - 1) (letter_image r q modulus) c.requires.powers j (omega arith)))
-    (image_in r q c.requires.constants modulus c.requires.monic Power letter (letter_power_in r q c.requires.constants modulus c.requires.monic j))
+    let image = unit_power r t coords q in
+    let low : j < coords.dimension = omega arith in
+    let count : length powers ≡ coords.dimension = ap length c.requires.powers ∙ length-first_values coords.dimension image in
+    get_or_read powers j _ (omega arith) c.index-powers-j.is (image j)
+    ∙ ap (λ v. get_or v j (image j)) c.requires.powers ∙ at-first_values coords.dimension image j (image j) low
+    ∙ ap (λ x. power_of t x q) (sym c.unit.ensures.value)
+
+pub push-requires : goal.push-requires
+push-requires g c =
+    let algebra = c.args.algebra.now in
+    let coords = g.A.Algebra.coords_of algebra in
+    ap length c.coords.ensures ∙ length-first_values coords.dimension _ ∙ sym c.loop-j.invariant.width
 
 pub loop-j-preserved : goal.loop-j-preserved
 loop-j-preserved g c =
-    let r = g.F.Field.ops c.args.field.now in
+    let algebra = c.args.algebra.now in
+    let r = g.A.Constants.Field.ops (g.A.Algebra.constants_of algebra) in
+    let t = g.A.Algebra.ops algebra in
+    let coords = g.A.Algebra.coords_of algebra in
     let q = c.args.q in
-    let modulus = c.args.modulus.now in
     let map = c.args.map in
     let j = c.loop-j.j in
-    let row = image_row r q modulus map in
+    let row = image_row r t coords q map in
     let next : suc j ≡ j + 1 = omega arith in
-    let image = c.image-image.ensures.value ∙ ap (image_of (stored_ops r modulus) q map) c.unit.ensures in
     record {
       width = c.push.ensures.width ∙ c.loop-j.invariant.width;
       rows =
           c.in_ok-push.ensures.rows
           ∙ ap₂ (λ u v. u ++ v ∷ []) c.loop-j.invariant.rows
-          (image_taken r q c.requires.constants modulus c.requires.monic map j c.image-image.result image c.image-image.ensures.width)
+          (c.coords.ensures
+          ∙ ap (λ x. first_values coords.dimension (coords.coord x)) (c.image-image.ensures.value ∙ ap (image_of t q map) c.unit.ensures.value))
           ∙ values_pushed j row ∙ ap (λ k. first_values k row) next;
     }

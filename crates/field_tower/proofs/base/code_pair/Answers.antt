@@ -6,10 +6,6 @@ use Rattle.field_tower.specs.Pairs.{IsPair}
 use Rattle.field_tower.proofs.CodePairs.{prime_constants, no_code_pair, code_pair_made}
 use Rattle.field_tower.proofs.base.code_pair.Goals as goal
 
-pub letter_images-requires-clause-constants : goal.letter_images-requires-clause-constants
-letter_images-requires-clause-constants c =
-    prime_constants c.args.prime.now.p c.args.prime.now.listed c.args.modulus.now c.requires.monic c.requires.small
-
 pub find_pair-requires-clause-constants : goal.find_pair-requires-clause-constants
 find_pair-requires-clause-constants c =
     prime_constants c.args.prime.now.p c.args.prime.now.listed c.args.modulus.now c.requires.monic c.requires.small

@@ -2,7 +2,7 @@ use Rattle.std.proofs.Common.{rules, ◌≡◌, ◌-◌, ◌*◌, ◌<◌, ◌�
 use Rattle.residue_field.specs.Base.{ops_of, size_of}
 use Rattle.residue_field.specs.Top.{Top}
 use Rattle.field_tower.specs.steps.Images.{frob_image}
-use Rattle.field_tower.specs.steps.Kernel.{letter_image}
+use Rattle.field_tower.specs.steps.LetterPowers.{letter_image}
 use Rattle.field_tower.proofs.TopValues.{shape_from}
 use Rattle.field_tower.proofs.FrobMap.{image-read, images_count, image_first, image_second, part_elems, part_stored, image_mapped}
 use Rattle.field_tower.proofs.frobenius.next_image.Goals as goal

@@ -1,7 +1,7 @@
 use Rattle.ring_core.proofs.Coefficients.{values_more}
 use Rattle.residue_field.specs.Base.{ops_of, size_of}
 use Rattle.field_tower.specs.steps.Places.{stored_ops}
-use Rattle.field_tower.specs.steps.Kernel.{letter_image}
+use Rattle.field_tower.specs.steps.LetterPowers.{letter_image}
 use Rattle.field_tower.proofs.powers.letter_images.Goals as goal
 
 pub loop-j-preserved : goal.loop-j-preserved

@@ -1,7 +1,7 @@
 use Rattle.std.proofs.Common.{◌≡◌}
 use Rattle.ring_core.specs.Coeffs.{first_values}
 use Rattle.residue_field.specs.Base.{ops_of, size_of}
-use Rattle.field_tower.specs.steps.Kernel.{letter_image}
+use Rattle.field_tower.specs.steps.LetterPowers.{letter_image}
 use Rattle.field_tower.proofs.powers.letter_images.Given as goal
 
 abbrev pub invariant-loop-j : goal.invariant-loop-j

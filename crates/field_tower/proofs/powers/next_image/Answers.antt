@@ -4,7 +4,7 @@ use Rattle.ring_core.specs.Powers.{power_of}
 use Rattle.residue_field.specs.Base.{ops_of, size_of}
 use Rattle.residue_field.proofs.BaseLaws.{base_ring, base_commutes}
 use Rattle.field_tower.specs.steps.Places.{stored_ops}
-use Rattle.field_tower.specs.steps.Kernel.{letter_image}
+use Rattle.field_tower.specs.steps.LetterPowers.{letter_image}
 use Rattle.field_tower.proofs.FrobMap.{image-read, images_count}
 use Rattle.field_tower.proofs.LetterPowers.{letter-power_in, letter-image_in, image-after}
 use Rattle.field_tower.proofs.powers.next_image.Goals as goal

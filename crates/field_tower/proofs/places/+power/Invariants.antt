@@ -1,4 +1,0 @@
-use Rattle.field_tower.proofs.places.+power.Given as goal
-
-abbrev pub decreases-power : goal.decreases-power
-decreases-power g l = l.k

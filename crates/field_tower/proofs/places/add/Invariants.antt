@@ -1,6 +1,0 @@
-use Rattle.ring_core.specs.Coeffs.{coeff}
-use Rattle.field_tower.proofs.FilledPlaces.{AreFilled}
-use Rattle.field_tower.proofs.places.add.Given as goal
-
-abbrev pub invariant-loop-i : goal.invariant-loop-i
-invariant-loop-i g l = let r = g.F.Field.ops l.field in AreFilled r (λ j. r.add (coeff r l.a.0 j) (coeff r l.b.0 j)) l.i l.places
