@@ -7,7 +7,7 @@ ghost use Rattle.field_tower.specs.steps.Images.{frob_image};
 ghost use Rattle.field_tower.specs.steps.LetterPowers.{letter_image};
 
 use super::base::BaseField;
-use super::products;
+use super::{places, products};
 use residue_field::{Code, TopElem};
 use ring_core::NoMemory;
 use std::alloc::Global;

@@ -5,8 +5,8 @@ use Rattle.residue_field.specs.Top.{ops_of_top}
 use Rattle.residue_field.proofs.TopLaws.{top_ring}
 use Rattle.field_tower.proofs.tower.TowerField.neg.Goals as goal
 
-pub neg-requires : goal.neg-requires
-neg-requires c =
+pub neg-requires-clause-elem : goal.neg-requires-clause-elem
+neg-requires-clause-elem c =
     subst (λ r. IsElem r c.args.a) (sym (ops-inside _ c.args.self.now c.self.view_is _ c.deref.ensures.value)) c.requires
 
 pub returns-clause-value : goal.returns-clause-value
