@@ -1,5 +1,6 @@
 pub mod Cleared
 pub mod LeftPlaces
+pub mod Sides
 pub mod Reduced
 pub mod Quotients
 pub mod Links

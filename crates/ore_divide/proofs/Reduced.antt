@@ -4,31 +4,29 @@ use Rattle.std.proofs.lemmas.Bool.{and_parts}
 use Rattle.ring_core.specs.Ring.{RingOps, IsElem}
 use Rattle.ring_core.specs.Field.{IsField, FrobOps, IsFrobField}
 use Rattle.ring_core.specs.Coeffs.{coeff, are_elems, is_canonical, trim}
-use Rattle.ring_core.specs.Twisted.{twisted_ops, list_add, list_mul}
+use Rattle.ring_core.specs.Twisted.{twisted_ops, list_add}
 use Rattle.ring_core.specs.Monomial.{monomial}
-use Rattle.ring_core.proofs.Carrier.{RingOn, same_element, add_zero, zero_mul, mul_zero}
+use Rattle.ring_core.proofs.Carrier.{RingOn, same_element, add_zero}
 use Rattle.ring_core.proofs.Coefficients.{canonical-trim, coeff-trim, trimmed-trim, same_coeffs}
 use Rattle.ring_core.proofs.Twist.{frob_twist}
 use Rattle.ring_core.proofs.Monomial.{monomial_in}
 use Rattle.ore_divide.specs.steps.Reduced.{IsReduced}
-use Rattle.euclid_theory.proofs.Sizes.{minus, mul_minus, minus_mul}
+use Rattle.euclid_theory.proofs.Sizes.{minus}
 use Rattle.euclid_theory.proofs.OreSizes.{Ores, ores}
 use Rattle.ring_core.proofs.Terms.{term_added, term_added_right}
 use Rattle.ore_divide.proofs.Cleared.{term_written}
+use Rattle.ore_divide.specs.declared.side.Side.{Side}
+use Rattle.ore_divide.specs.declared.side.Side.TheVariants.{Right, Left}
+use Rattle.ore_divide.specs.steps.Sides.{multiple_on, term_on}
+use Rattle.ore_divide.proofs.Sides.{mul_on, minus_on, zero_on, multiple_is}
 
 module _ {M : Type 0} (R : RingOn M) where
   -- u = v + q b = (v + x b) + (q - x) b
-  taken : (u v w q x b : M) → u ≡ R.add v (R.mul q b) → w ≡ R.add v (R.mul x b) → u ≡ R.add w (R.mul (minus R q x) b)
-  taken u v w q x b e f =
+  taken : (s : Side) (u v w q x b : M) → u ≡ R.add v (mul_on R s q b) → w ≡ R.add v (mul_on R s x b) → u ≡ R.add w (mul_on R s (minus R q x) b)
+  taken s u v w q x b e f =
       e
-      ∙ sym (ap₂ R.add f (mul_minus R q x b ∙ R.add_comm _ _) ∙ R.add_assoc _ _ _
-      ∙ ap (R.add v) (sym (R.add_assoc _ _ _) ∙ ap (λ y. R.add y (R.mul q b)) (R.add_neg (R.mul x b)) ∙ R.zero_add _))
-
-  taken_left : (u v w q x b : M) → u ≡ R.add v (R.mul b q) → w ≡ R.add v (R.mul b x) → u ≡ R.add w (R.mul b (minus R q x))
-  taken_left u v w q x b e f =
-      e
-      ∙ sym (ap₂ R.add f (minus_mul R b q x ∙ R.add_comm _ _) ∙ R.add_assoc _ _ _
-      ∙ ap (R.add v) (sym (R.add_assoc _ _ _) ∙ ap (λ y. R.add y (R.mul b q)) (R.add_neg (R.mul b x)) ∙ R.zero_add _))
+      ∙ sym (ap₂ R.add f (minus_on R s q x b ∙ R.add_comm _ _) ∙ R.add_assoc _ _ _
+      ∙ ap (R.add v) (sym (R.add_assoc _ _ _) ∙ ap (λ y. R.add y (mul_on R s q b)) (R.add_neg (mul_on R s x b)) ∙ R.zero_add _))
 
 module _ {E B : Type 0} (r : RingOps E) (inv : E → Option E) (base : RingOps B) (f : FrobOps E B) (k : IsField r inv) (l : IsFrobField r base f) where
   abbrev pub trimmed_ore : (u : List E) → are_elems r u ≡ true → Ores r inv base f k l
@@ -39,42 +37,37 @@ module _ {E B : Type 0} (r : RingOps E) (inv : E → Option E) (base : RingOps B
   less q c i p = minus (ores r inv base f k l) q (monomial r c i, monomial_in r k.ring c i p)
 
   -- nothing was taken away yet
-  none_taken : (u b : List E) → are_elems r u ≡ true → is_canonical r b ≡ true → trim r u ≡ list_add r (trim r u) (list_mul r f.frob [] b)
-  none_taken u b eu cb =
+  none_taken : (s : Side) (u b : List E) → are_elems r u ≡ true → is_canonical r b ≡ true → trim r u ≡ list_add r (trim r u) (multiple_on s r f.frob [] b)
+  none_taken s u b eu cb =
       let R = ores r inv base f k l in
-      ap (λ x. x.0) (sym (ap (R.add (trimmed_ore u eu)) (zero_mul R (b, cb)) ∙ add_zero R (trimmed_ore u eu)))
+      ap (λ x. x.0) (sym (ap (R.add (trimmed_ore u eu)) (zero_on R s (b, cb)) ∙ add_zero R (trimmed_ore u eu)))
+      ∙ ap (list_add r (trim r u)) (multiple_is r inv base f k l s R.zero (b, cb))
 
-  none_taken_left : (u b : List E) → are_elems r u ≡ true → is_canonical r b ≡ true → trim r u ≡ list_add r (trim r u) (list_mul r f.frob b [])
-  none_taken_left u b eu cb =
-      let R = ores r inv base f k l in
-      ap (λ x. x.0) (sym (ap (R.add (trimmed_ore u eu)) (mul_zero R (b, cb)) ∙ add_zero R (trimmed_ore u eu)))
-
-  -- One term more was taken away, by adding `c tau^i row` or `row c tau^i`.
-  module _ (u rest after row : List E) (q : Ores r inv base f k l) (c : E) (i : ℕ)
+  -- One term more was taken away, by adding a multiple of `row` by `c tau^i`.
+  module _ (s : Side) (u rest after row : List E) (q : Ores r inv base f k l) (c : E) (i : ℕ)
       (eu : are_elems r u ≡ true) (er : are_elems r rest ≡ true) (ea : are_elems r after ≡ true) (cr : is_canonical r row ≡ true) (p : IsElem r c)
       (below : (n : ℕ) → n < i → coeff r after n ≡ coeff r rest n) where
-    pub more_taken : trim r u ≡ list_add r (trim r rest) (list_mul r f.frob q.0 row)
-        → ((j : ℕ) → coeff r after (i + j) ≡ r.add (coeff r rest (i + j)) (r.mul c (f.frob (coeff r row j) i)))
-        → trim r u ≡ list_add r (trim r after) (list_mul r f.frob (less q c i p).0 row)
+    abbrev term : Ores r inv base f k l
+    term = (monomial r c i, monomial_in r k.ring c i p)
+
+    term_taken : (s : Side) → ((j : ℕ) → coeff r after (i + j) ≡ r.add (coeff r rest (i + j)) (term_on s r f.frob c i row j))
+        → trim r after ≡ list_add r (trim r rest) (mul_on (ores r inv base f k l) s term (row, cr)).0
+    term_taken Right = term_added r k.ring f.frob (frob_twist r inv base f k l) after rest row c i ea er (and_parts _ _ cr).0 p below
+    term_taken Left = term_added_right r k.ring f.frob (frob_twist r inv base f k l) after rest row c i ea er (and_parts _ _ cr).0 p below
+
+    pub more_taken : trim r u ≡ list_add r (trim r rest) (multiple_on s r f.frob q.0 row)
+        → ((j : ℕ) → coeff r after (i + j) ≡ r.add (coeff r rest (i + j)) (term_on s r f.frob c i row j))
+        → trim r u ≡ list_add r (trim r after) (multiple_on s r f.frob (less q c i p).0 row)
     more_taken held added =
         let ops = twisted_ops r f.frob in
-        let term : Ores r inv base f k l = (monomial r c i, monomial_in r k.ring c i p) in
-        let one = term_added r k.ring f.frob (frob_twist r inv base f k l) after rest row c i ea er (and_parts _ _ cr).0 p below added in
+        let R = ores r inv base f k l in
         ap (λ x. x.0)
-        (taken (ores r inv base f k l) (trimmed_ore u eu) (trimmed_ore rest er) (trimmed_ore after ea) q term (row, cr) (same_element ops _ _ held) (same_element ops _ _ one))
-
-    pub more_taken_left : trim r u ≡ list_add r (trim r rest) (list_mul r f.frob row q.0)
-        → ((j : ℕ) → coeff r after (i + j) ≡ r.add (coeff r rest (i + j)) (r.mul (coeff r row j) (f.frob c j)))
-        → trim r u ≡ list_add r (trim r after) (list_mul r f.frob row (less q c i p).0)
-    more_taken_left held added =
-        let ops = twisted_ops r f.frob in
-        let term : Ores r inv base f k l = (monomial r c i, monomial_in r k.ring c i p) in
-        let one = term_added_right r k.ring f.frob (frob_twist r inv base f k l) after rest row c i ea er (and_parts _ _ cr).0 p below added in
-        ap (λ x. x.0)
-        (taken_left (ores r inv base f k l) (trimmed_ore u eu) (trimmed_ore rest er) (trimmed_ore after ea) q term (row, cr) (same_element ops _ _ held) (same_element ops _ _ one))
+        (taken R s (trimmed_ore u eu) (trimmed_ore rest er) (trimmed_ore after ea) q term (row, cr)
+        (same_element ops _ _ (held ∙ ap (list_add r (trim r rest)) (sym (multiple_is r inv base f k l s q (row, cr))))) (same_element ops _ _ (term_taken s added)))
+        ∙ ap (list_add r (trim r after)) (multiple_is r inv base f k l s (less q c i p) (row, cr))
 
   -- A division: the term that was taken away stands in the quotient.
-  module _ (u rest after row quotient written : List E) (c x : E) (i : ℕ)
+  module _ (s : Side) (u rest after row quotient written : List E) (c x : E) (i : ℕ)
       (eu : are_elems r u ≡ true) (er : are_elems r rest ≡ true) (ea : are_elems r after ≡ true) (cr : is_canonical r row ≡ true) (p : IsElem r c)
       (below : (n : ℕ) → n < i → coeff r after n ≡ coeff r rest n)
       (eq : are_elems r quotient ≡ true) (ew : are_elems r written ≡ true)
@@ -82,19 +75,12 @@ module _ {E B : Type 0} (r : RingOps E) (inv : E → Option E) (base : RingOps B
     quotient_less : trim r written ≡ (less (trimmed_ore quotient eq) c i p).0
     quotient_less = term_written r k.ring written quotient c x i ew eq p negative zero new others
 
-    pub divided_more : trim r u ≡ list_add r (trim r rest) (list_mul r f.frob (trim r quotient) row)
-        → ((j : ℕ) → coeff r after (i + j) ≡ r.add (coeff r rest (i + j)) (r.mul c (f.frob (coeff r row j) i)))
-        → trim r u ≡ list_add r (trim r after) (list_mul r f.frob (trim r written) row)
+    pub divided_more : trim r u ≡ list_add r (trim r rest) (multiple_on s r f.frob (trim r quotient) row)
+        → ((j : ℕ) → coeff r after (i + j) ≡ r.add (coeff r rest (i + j)) (term_on s r f.frob c i row j))
+        → trim r u ≡ list_add r (trim r after) (multiple_on s r f.frob (trim r written) row)
     divided_more held added =
-        more_taken u rest after row (trimmed_ore quotient eq) c i eu er ea cr p below held added
-        ∙ ap (λ y. list_add r (trim r after) (list_mul r f.frob y row)) (sym quotient_less)
-
-    pub divided_more_left : trim r u ≡ list_add r (trim r rest) (list_mul r f.frob row (trim r quotient))
-        → ((j : ℕ) → coeff r after (i + j) ≡ r.add (coeff r rest (i + j)) (r.mul (coeff r row j) (f.frob c j)))
-        → trim r u ≡ list_add r (trim r after) (list_mul r f.frob row (trim r written))
-    divided_more_left held added =
-        more_taken_left u rest after row (trimmed_ore quotient eq) c i eu er ea cr p below held added
-        ∙ ap (λ y. list_add r (trim r after) (list_mul r f.frob row y)) (sym quotient_less)
+        more_taken s u rest after row (trimmed_ore quotient eq) c i eu er ea cr p below held added
+        ∙ ap (λ y. list_add r (trim r after) (multiple_on s r f.frob y row)) (sym quotient_less)
 
   -- before the first place
   zeros_trimmed : (u : List E) → are_elems r u ≡ true → ((i : ℕ) → coeff r u i ≡ r.zero) → trim r u ≡ []
@@ -102,15 +88,10 @@ module _ {E B : Type 0} (r : RingOps E) (inv : E → Option E) (base : RingOps B
       let z = k.ring.closed.zero_in in
       same_coeffs r z k.ring.equal (trim r u) [] (trimmed-trim r u) refl (λ i. coeff-trim r z k.ring.equal u e i ∙ zeros i)
 
-  pub divided_start : (u b quotient : List E) → are_elems r u ≡ true → is_canonical r b ≡ true → are_elems r quotient ≡ true → ((n : ℕ) → coeff r quotient n ≡ r.zero)
-      → trim r u ≡ list_add r (trim r u) (list_mul r f.frob (trim r quotient) b)
-  divided_start u b quotient eu cb eq zeros =
-      none_taken u b eu cb ∙ ap (λ y. list_add r (trim r u) (list_mul r f.frob y b)) (sym (zeros_trimmed quotient eq zeros))
-
-  pub divided_start_left : (u b quotient : List E) → are_elems r u ≡ true → is_canonical r b ≡ true → are_elems r quotient ≡ true → ((n : ℕ) → coeff r quotient n ≡ r.zero)
-      → trim r u ≡ list_add r (trim r u) (list_mul r f.frob b (trim r quotient))
-  divided_start_left u b quotient eu cb eq zeros =
-      none_taken_left u b eu cb ∙ ap (λ y. list_add r (trim r u) (list_mul r f.frob b y)) (sym (zeros_trimmed quotient eq zeros))
+  pub divided_start : (s : Side) (u b quotient : List E) → are_elems r u ≡ true → is_canonical r b ≡ true → are_elems r quotient ≡ true → ((n : ℕ) → coeff r quotient n ≡ r.zero)
+      → trim r u ≡ list_add r (trim r u) (multiple_on s r f.frob (trim r quotient) b)
+  divided_start s u b quotient eu cb eq zeros =
+      none_taken s u b eu cb ∙ ap (λ y. list_add r (trim r u) (multiple_on s r f.frob y b)) (sym (zeros_trimmed quotient eq zeros))
 
   -- Three lists at once.
   module _ (u o p b s w : List E) (eu : are_elems r u ≡ true) (eo : are_elems r o ≡ true) (ep : are_elems r p ≡ true)
@@ -119,9 +100,9 @@ module _ {E B : Type 0} (r : RingOps E) (inv : E → Option E) (base : RingOps B
     reduced_start = record {
       factor = [];
       factor_in = refl;
-      first = none_taken u b eu cb;
-      second = none_taken o s eo cs;
-      third = none_taken p w ep cw;
+      first = none_taken Right u b eu cb;
+      second = none_taken Right o s eo cs;
+      third = none_taken Right p w ep cw;
     }
 
     pub reduced_more : (rest left right rest2 left2 right2 : List E) (c : E) (i : ℕ) → IsReduced r f.frob u o p b s w rest left right
@@ -137,7 +118,7 @@ module _ {E B : Type 0} (r : RingOps E) (inv : E → Option E) (base : RingOps B
         record {
           factor = (less q c i pc).0;
           factor_in = (less q c i pc).1;
-          first = more_taken u rest rest2 b q c i eu er er2 cb pc below held.first added;
-          second = more_taken o left left2 s q c i eo el el2 cs pc below2 held.second added2;
-          third = more_taken p right right2 w q c i ep et et2 cw pc below3 held.third added3;
+          first = more_taken Right u rest rest2 b q c i eu er er2 cb pc below held.first added;
+          second = more_taken Right o left left2 s q c i eo el el2 cs pc below2 held.second added2;
+          third = more_taken Right p right right2 w q c i ep et et2 cw pc below3 held.third added3;
         }

@@ -2,9 +2,11 @@
 ghost use Rattle.std.specs.Prelude.{◌≡◌, IfErr, IfOk, true};
 ghost use Rattle.ring_core.specs.Coeffs.{is_canonical};
 ghost use Rattle.ore_divide.specs.Division.{IsRightDivision, IsLeftDivision, IsDivisionFault};
+ghost use Rattle.ore_divide.specs.steps.Sides.{IsDivision};
 
 use super::fault::OreFault;
-use super::lists::{divide_list, divide_list_left};
+use super::lists::divide_list;
+use super::side::Side;
 use ore_poly::Ore;
 use ring_core::lists::top_inverse;
 use ring_core::{E, Field, FrobField};
@@ -17,6 +19,29 @@ pub struct Division<C> {
     pub quotient: Ore<C>,
     /// What is left: zero, or of lower degree than the divisor.
     pub remainder: Ore<C>,
+}
+
+/// Quotient and remainder of `a` by `b`.
+fn divide<K: FrobField>(
+    alloc: Global,
+    k: &K,
+    side: Side,
+    a: &Ore<E<K>>,
+    b: &Ore<E<K>>,
+) -> Result<Division<E<K>>, OreFault>
+    requires dividend { is_canonical (K.ops k.now) a.now ≡ true }
+    requires divisor { is_canonical (K.ops k.now) b.now ≡ true }
+    ensures division { IfOk result (λ v. IsDivision side (K.ops k.now) (K.frob_ops k.now).frob a.now b.now v.quotient v.remainder) }
+    ensures refused { IfErr result (IsDivisionFault b.now) }
+{
+    let Some(inverse) = top_inverse(k, b.as_slice()) else {
+        return Err(OreFault::ZeroDivisor);
+    };
+    let (quotient, rest) = divide_list(alloc, k, side, a.as_slice(), b.as_slice(), inverse)?;
+    Ok(Division {
+        quotient: Ore::from_vec(quotient),
+        remainder: Ore::from_vec(rest),
+    })
 }
 
 /// Division on the right: `a` is the quotient times `b`, and the remainder, which is zero or of lower degree
@@ -33,14 +58,7 @@ pub fn right_divide<K: FrobField>(
     ensures division { IfOk result (λ v. IsRightDivision (K.ops k.now) (K.frob_ops k.now).frob a.now b.now v.quotient v.remainder) }
     ensures refused { IfErr result (IsDivisionFault b.now) }
 {
-    let Some(inverse) = top_inverse(k, b.as_slice()) else {
-        return Err(OreFault::ZeroDivisor);
-    };
-    let (quotient, rest) = divide_list(alloc, k, a.as_slice(), b.as_slice(), inverse)?;
-    Ok(Division {
-        quotient: Ore::from_vec(quotient),
-        remainder: Ore::from_vec(rest),
-    })
+    divide(alloc, k, Side::Right, a, b)
 }
 
 /// Division on the left: `a` is `b` times the quotient, and the remainder, which is zero or of lower degree
@@ -57,12 +75,5 @@ pub fn left_divide<K: FrobField>(
     ensures division { IfOk result (λ v. IsLeftDivision (K.ops k.now) (K.frob_ops k.now).frob a.now b.now v.quotient v.remainder) }
     ensures refused { IfErr result (IsDivisionFault b.now) }
 {
-    let Some(inverse) = top_inverse(k, b.as_slice()) else {
-        return Err(OreFault::ZeroDivisor);
-    };
-    let (quotient, rest) = divide_list_left(alloc, k, a.as_slice(), b.as_slice(), inverse)?;
-    Ok(Division {
-        quotient: Ore::from_vec(quotient),
-        remainder: Ore::from_vec(rest),
-    })
+    divide(alloc, k, Side::Left, a, b)
 }

@@ -7,6 +7,7 @@ ghost use Rattle.ore_divide.specs.steps.Links.{IsNextLink, AreLastLinks, IsLastR
 
 use super::lists::divide_list;
 use super::rows::reduce_rows;
+use super::side::Side;
 use ring_core::lists::{copy_list, neg_list, single_list, top_inverse, trimmed};
 use ring_core::{E, Field, FrobField, NoMemory};
 use std::alloc::Global;
@@ -105,7 +106,7 @@ fn last_links<K: FrobField>(
     ensures { IfOk result (λ v. AreLastLinks (K.ops field.now) (K.frob_ops field.now).frob a.now b.now
         v.before.remainder.items v.after.remainder.items v.before.left.items v.after.left.items v.before.right.items v.after.right.items) }
 {
-    let (quotient, remainder) = divide_list(alloc, field, a, b, inverse)?;
+    let (quotient, remainder) = divide_list(alloc, field, Side::Right, a, b, inverse)?;
     let mut before = Link {
         remainder: copy_list(alloc, b)?,
         left: Vec::new(alloc),

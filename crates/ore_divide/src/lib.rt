@@ -9,6 +9,7 @@ mod fault;
 pub mod laws;
 mod lists;
 mod rows;
+mod side;
 
 pub use common::{Common, Multiple, common_multiple, common_right};
 pub use division::{Division, left_divide, right_divide};

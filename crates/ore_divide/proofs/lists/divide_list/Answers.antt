@@ -44,4 +44,4 @@ returns g c =
     c.requires.dividend c.requires.divisor c.clear_places.ensures.rest c.clear_places.ensures.quotient c.requires.nonzero c.clear_places.ensures.cleared
     (c.trimmed.ensures.value ∙ ap (trim r) (whole_written quotient.len written quotient.items quotient_kept quotient_count))
     (c.trimmed-2.ensures.value ∙ ap (trim r) (whole_written rest.len cleared rest.items rest_kept rest_count))
-    (ap (trim r) (sym old) ∙ c.clear_places.ensures.divided)
+    c.args.side (ap (trim r) (sym old) ∙ c.clear_places.ensures.divided)

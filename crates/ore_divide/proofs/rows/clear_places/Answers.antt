@@ -1,9 +1,9 @@
-use Rattle.std.proofs.Common.{◌≢◌, ◌+◌, ◌-◌, ◌<◌, ◌≤◌, length, ap, ◌∙◌, arith, get_or-set_same, get_or-set_other}
-use Rattle.ring_core.specs.Coeffs.{coeff}
+use Rattle.std.proofs.Common.{◌≢◌, ◌+◌, ◌-◌, ◌<◌, ◌≤◌, length, ◌∙◌, arith, get_or-set_same, get_or-set_other}
 use Rattle.ring_core.proofs.Coefficients.{coeff_past, elems_set}
-use Rattle.ring_core.proofs.Terms.{times_zero}
-use Rattle.ring_core.proofs.Twist.{frob_of_zero}
+use Rattle.std.proofs.lemmas.Bool.{and_parts}
+use Rattle.ore_divide.specs.steps.Sides.{term_on}
 use Rattle.ore_divide.proofs.Cleared.{place_cleared}
+use Rattle.ore_divide.proofs.Sides.{term_past}
 use Rattle.ore_divide.proofs.Reduced.{divided_start, divided_more}
 use Rattle.ore_divide.proofs.rows.clear_places.Goals as goal
 
@@ -17,7 +17,7 @@ loop-k-init g c =
       quotient_elems = c.requires.quotient;
       zeros = λ n l. c.requires.zeros n;
       divided =
-          divided_start r (g.K.Field.inv_of k) _ (g.K.FrobField.frob_ops k) field (g.met.K.FrobField.frob_laws k) c.args.rest.now c.args.b.now c.args.quotient.now
+          divided_start r (g.K.Field.inv_of k) _ (g.K.FrobField.frob_ops k) field (g.met.K.FrobField.frob_laws k) c.args.side c.args.rest.now c.args.b.now c.args.quotient.now
           c.requires.rest c.requires.divisor c.requires.quotient c.requires.zeros;
       cleared = λ n l. coeff_past r c.args.rest.now n (omega arith);
     }
@@ -43,13 +43,13 @@ loop-k-preserved g c =
       quotient_elems = elems_set r quotient i _ held.quotient_elems c.neg.ensures.elem;
       zeros = λ n (l : n < i). let apart : n ≢ i = omega arith in get_or-set_other quotient i n _ r.zero apart ∙ held.zeros n (omega arith);
       divided =
-          divided_more r (g.K.Field.inv_of k) _ f field laws c.args.rest.now rest after b quotient _ factor c.neg.result i
+          divided_more r (g.K.Field.inv_of k) _ f field laws c.args.side c.args.rest.now rest after b quotient _ factor c.neg.result i
           c.requires.rest held.rest_elems step.elems c.requires.divisor step.elem step.below held.quotient_elems
           (elems_set r quotient i _ held.quotient_elems c.neg.ensures.elem) c.neg.ensures.value (held.zeros i (omega arith)) (get_or-set_same quotient i _ r.zero room)
           (λ n apart. get_or-set_other quotient i n _ r.zero apart) held.divided step.added;
       cleared =
-          place_cleared r field.ring rest after i (length b) (λ j. r.mul factor (f.frob (coeff r b j) i)) held.rest_elems c.requires.nonzero step.cleared step.added
-          (λ j past. times_zero r field.ring factor _ step.elem (ap (λ x. f.frob x i) (coeff_past r b j past) ∙ frob_of_zero r (g.K.Field.inv_of k) _ f field laws i))
+          place_cleared r field.ring rest after i (length b) (term_on c.args.side r f.frob factor i b) held.rest_elems c.requires.nonzero step.cleared step.added
+          (term_past r (g.K.Field.inv_of k) _ f field laws factor i b (and_parts _ _ c.requires.divisor).0 step.elem c.args.side)
           (λ n (l : i + 1 + length b ≤ n + 1). held.cleared n (omega arith));
     }
 

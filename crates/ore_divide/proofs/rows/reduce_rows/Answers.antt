@@ -1,9 +1,10 @@
-use Rattle.std.proofs.Common.{◌+◌, ◌-◌, ◌≤◌, length, ap, ◌∙◌, arith}
-use Rattle.ring_core.specs.Coeffs.{coeff}
+use Rattle.std.proofs.Common.{◌+◌, ◌-◌, ◌≤◌, length, arith}
 use Rattle.ring_core.proofs.Coefficients.{coeff_past}
-use Rattle.ring_core.proofs.Terms.{times_zero}
-use Rattle.ring_core.proofs.Twist.{frob_of_zero}
+use Rattle.std.proofs.lemmas.Bool.{and_parts}
+use Rattle.ore_divide.specs.declared.side.Side.TheVariants.{Right}
+use Rattle.ore_divide.specs.steps.Sides.{term_on}
 use Rattle.ore_divide.proofs.Cleared.{place_cleared}
+use Rattle.ore_divide.proofs.Sides.{term_past}
 use Rattle.ore_divide.proofs.Reduced.{reduced_start, reduced_more}
 use Rattle.ore_divide.proofs.rows.reduce_rows.Goals as goal
 
@@ -34,8 +35,8 @@ loop-k-preserved g c =
     let i = c.loop-k.k - 1 in
     let factor = c.clear_place-factor.result in
     let step = c.clear_place-factor.ensures in
-    let left = c.add_raised.ensures in
-    let right = c.add_raised-in-loop-k.ensures in
+    let left = c.add_multiple.ensures in
+    let right = c.add_multiple-in-loop-k.ensures in
     record {
       rest_elems = step.elems;
       left_elems = left.elems;
@@ -43,11 +44,11 @@ loop-k-preserved g c =
       reduced =
           reduced_more r (g.K.Field.inv_of k) _ f field laws c.args.rest.now c.args.left.now c.args.right.now b c.args.s.now c.args.w.now
           c.requires.rest c.requires.left c.requires.right c.requires.divisor c.requires.left_partner c.requires.right_partner
-          c.loop-k.rest c.loop-k.left c.loop-k.right c.clear_place-factor.new.rest c.add_raised.new.out c.add_raised-in-loop-k.new.out factor i held.reduced
+          c.loop-k.rest c.loop-k.left c.loop-k.right c.clear_place-factor.new.rest c.add_multiple.new.out c.add_multiple-in-loop-k.new.out factor i held.reduced
           held.rest_elems held.left_elems held.right_elems step.elems left.elems right.elems step.elem step.below left.below right.below step.added left.added right.added;
       cleared =
-          place_cleared r field.ring c.loop-k.rest c.clear_place-factor.new.rest i (length b) (λ j. r.mul factor (f.frob (coeff r b j) i)) held.rest_elems c.requires.nonzero step.cleared step.added
-          (λ j past. times_zero r field.ring factor _ step.elem (ap (λ x. f.frob x i) (coeff_past r b j past) ∙ frob_of_zero r (g.K.Field.inv_of k) _ f field laws i))
+          place_cleared r field.ring c.loop-k.rest c.clear_place-factor.new.rest i (length b) (term_on Right r f.frob factor i b) held.rest_elems c.requires.nonzero step.cleared step.added
+          (term_past r (g.K.Field.inv_of k) _ f field laws factor i b (and_parts _ _ c.requires.divisor).0 step.elem Right)
           (λ n (l : i + 1 + length b ≤ n + 1). held.cleared n (omega arith));
     }
 
