@@ -1,5 +1,5 @@
 -- What a base field computes, by kinds.
-use Rattle.std.proofs.Common.{◌≡◌, ℕ, suc, ◌+◌, ◌-◌, ◌*◌, ◌%◌, ◌^◌, ◌<◌, ◌≤◌, List, length, slice_index, get_or, bit_xor, sym, ap, ap₂, subst, ◌∙◌, arith}
+use Rattle.std.proofs.Common.{◌≡◌, ℕ, suc, ◌+◌, ◌-◌, ◌*◌, ◌%◌, ◌^◌, ◌<◌, ◌≤◌, List, length, slice_index, get_or, bit_xor, sym, ap, ap₂, subst, ◌∙◌, arith, lt-ltb}
 use Rattle.std.proofs.lemmas.List.{get_or_read}
 use Rattle.ring_core.specs.Ring.{IsElem}
 use Rattle.residue_field.specs.Base.{Base, base_ops, ops_of, size_of}
@@ -7,34 +7,66 @@ use Rattle.residue_field.proofs.BaseLaws.{degree_of}
 use Rattle.residue_field.proofs.BaseForms.{add-xor, neg-two}
 use Rattle.field_tower.specs.declared.tables.SumKind.{SumKind}
 use Rattle.field_tower.specs.declared.tables.SumKind.TheVariants as sum
-use Rattle.field_tower.specs.declared.tables.Sums.{Sums}
+use Rattle.field_tower.specs.declared.base.BaseField.TheInside.{Inside}
 use Rattle.field_tower.specs.declared.logs.ProductKind.{ProductKind}
 use Rattle.field_tower.specs.declared.logs.ProductKind.TheVariants as product
-use Rattle.field_tower.specs.declared.logs.Products.{Products}
-use Rattle.field_tower.specs.steps.Kinds.{AreSums, AreSumsOf, AreProducts, AreProductsOf}
+use Rattle.field_tower.specs.steps.Kinds.{AreSumsOf, AreProductsOf}
 use Rattle.field_tower.specs.steps.Logs.{IsLogTable}
 use Rattle.field_tower.specs.steps.Places.{IsModulus}
-use Rattle.field_tower.specs.declared.size.TheConstants.{CODES}
 use Rattle.residue_field.specs.Prime.{prime_ops}
-use Rattle.field_tower.proofs.BaseValues.{below_size}
+use Rattle.field_tower.proofs.BaseValues.{below_size, elem-is, size_large}
 use Rattle.field_tower.proofs.ModularForms.{IsModular, base_modular}
 use Rattle.field_tower.proofs.BaseTables.{table_fits, table-value, row_fits, row-value, modulus_of}
 
--- k as the fields have it, n as the contracts name it
-module _ (k : Base) (q : ℕ) (count : q ≡ size_of k) (n : Base) (same : k ≡ n) where
+-- in characteristic two
+module _ (k : Base) (two : k.p ≡ 2) where
+  binary_below : (a : ℕ) → IsElem (ops_of k) a → a < 2 ^ suc (k.s - 1)
+  binary_below a e = subst (λ m. a < m) (ap₂ (λ p s. p ^ s) two (sym (degree_of k))) (below_size k a e)
+
+  pub binary_sum : (a b : ℕ) → IsElem (ops_of k) a → IsElem (ops_of k) b → bit_xor a b ≡ (ops_of k).add a b
+  binary_sum a b e d =
+      sym (add-xor (k.s - 1) a b k.modulus (binary_below a e) (binary_below b d))
+      ∙ ap (λ p. (base_ops p (k.s - 1) k.modulus).add a b) (sym two)
+
+  pub binary_negative : (a : ℕ) → IsElem (ops_of k) a → a ≡ (ops_of k).neg a
+  binary_negative a e =
+      sym (neg-two (k.s - 1) a k.modulus (binary_below a e))
+      ∙ ap (λ p. (base_ops p (k.s - 1) k.modulus).neg a) (sym two)
+
+-- the base field of which the parts are these
+abbrev pub base_of : Inside → Base
+base_of i = record { p = i.p; s = i.s; modulus = i.modulus.items; is_base = i.is_base }
+
+-- i as the fields have it, n as the contracts name it
+module _ (i : Inside) (n : Base) (same : base_of i ≡ n) where
+  abbrev k : Base
+  k = base_of i
+
+  abbrev q : ℕ
+  q = i.q
+
+  pub count : i.q ≡ size_of n
+  count = i.count ∙ ap size_of same
+
+  pub two_codes : 2 ≤ i.q
+  two_codes = subst (λ m. 2 ≤ m) (sym count) (size_large n)
+
+  pub code_in : (a : ℕ) → a < i.q → IsElem (ops_of n) a
+  code_in a l = elem-is n a ∙ lt-ltb a (size_of n) (subst (λ m. a < m) count l)
+
   pub below : (a : ℕ) → IsElem (ops_of n) a → a < q
-  below a e = subst (λ m. a < m) (sym (count ∙ ap size_of same)) (below_size n a e)
+  below a e = subst (λ m. a < m) (sym count) (below_size n a e)
 
   -- the modulus and the codes as the functions on digits want them
-  pub digit_modulus : (w : List ℕ) → w ≡ k.modulus → q ≤ CODES → IsModulus (prime_ops k.p) w
-  digit_modulus w is small =
-      modulus_of k.p k.s q w k.modulus is k.is_base.listed k.is_base.positive count small k.is_base.count k.is_base.elems k.is_base.top
+  pub digit_modulus : (w : List ℕ) → w ≡ k.modulus → IsModulus (prime_ops k.p) w
+  digit_modulus w is =
+      modulus_of k.p k.s q w k.modulus is k.is_base.listed k.is_base.positive i.count i.small k.is_base.count k.is_base.elems k.is_base.top
 
   pub digit_bound : (w : List ℕ) → w ≡ k.modulus → (a : ℕ) → IsElem (ops_of n) a → a < k.p ^ (length w - 1)
   digit_bound w is a e =
       let len : length w ≡ k.s + 1 = ap length is ∙ k.is_base.count in
       let degree : k.s ≡ length w - 1 = omega arith in
-      subst (λ m. a < k.p ^ m) degree (subst (λ m. a < m) count (below a e))
+      subst (λ m. a < k.p ^ m) degree (subst (λ m. a < m) i.count (below a e))
 
   -- modulo the prime
   module _ (one : k.s - 1 ≡ 0) where
@@ -55,68 +87,61 @@ module _ (k : Base) (q : ℕ) (count : q ≡ size_of k) (n : Base) (same : k ≡
 
   -- in characteristic two
   module _ (two : k.p ≡ 2) where
-    binary_below : (a : ℕ) → IsElem (ops_of n) a → a < 2 ^ suc (k.s - 1)
-    binary_below a e =
-        subst (λ m. a < m) (count ∙ ap₂ (λ p s. p ^ s) two (sym (degree_of k))) (below a e)
+    here : n.p ≡ 2
+    here = sym (ap (λ m. m.p) same) ∙ two
 
     pub binary-add : (a b : ℕ) → IsElem (ops_of n) a → IsElem (ops_of n) b → bit_xor a b ≡ (ops_of n).add a b
-    binary-add a b e d =
-        sym (add-xor (k.s - 1) a b k.modulus (binary_below a e) (binary_below b d))
-        ∙ ap (λ p. (base_ops p (k.s - 1) k.modulus).add a b) (sym two) ∙ ap (λ m. (ops_of m).add a b) same
+    binary-add = binary_sum n here
 
     pub binary-neg : (a : ℕ) → IsElem (ops_of n) a → a ≡ (ops_of n).neg a
-    binary-neg a e =
-        sym (neg-two (k.s - 1) a k.modulus (binary_below a e))
-        ∙ ap (λ p. (base_ops p (k.s - 1) k.modulus).neg a) (sym two) ∙ ap (λ m. (ops_of m).neg a) same
+    binary-neg = binary_negative n here
 
   -- the kind of the sums
-  module _ (t : Sums) (are : AreSums k.p (k.s - 1) q k.modulus t) where
-    pub sums_are : (kind : SumKind) → t.kind ≡ kind → AreSumsOf k.p (k.s - 1) q k.modulus t.table.items t.negatives.items kind
-    sums_are kind is = subst (AreSumsOf k.p (k.s - 1) q k.modulus t.table.items t.negatives.items) is are
+  pub sums_are : (kind : SumKind) → i.sums.kind ≡ kind → AreSumsOf k.p (k.s - 1) q k.modulus i.sums.table.items i.sums.negatives.items kind
+  sums_are kind is = subst (AreSumsOf k.p (k.s - 1) q k.modulus i.sums.table.items i.sums.negatives.items) is i.are_sums
 
-    module _ (is : t.kind ≡ sum.Tabled) where
-      pub sum_fits : (a b : ℕ) → IsElem (ops_of n) a → IsElem (ops_of n) b → a * q + b < length t.table.items
-      sum_fits a b e d = table_fits q _ _ a b (sums_are sum.Tabled is).0 (below a e) (below b d)
+  module _ (is : i.sums.kind ≡ sum.Tabled) where
+    pub sum_fits : (a b : ℕ) → IsElem (ops_of n) a → IsElem (ops_of n) b → a * q + b < length i.sums.table.items
+    sum_fits a b e d = table_fits q _ _ a b (sums_are sum.Tabled is).0 (below a e) (below b d)
 
-      pub negative_fits : (a : ℕ) → IsElem (ops_of n) a → a < length t.negatives.items
-      negative_fits a e = row_fits q _ _ a (sums_are sum.Tabled is).1 (below a e)
+    pub negative_fits : (a : ℕ) → IsElem (ops_of n) a → a < length i.sums.negatives.items
+    negative_fits a e = row_fits q _ _ a (sums_are sum.Tabled is).1 (below a e)
 
-      pub tabled-add : (a b x : ℕ) → IsElem (ops_of n) a → IsElem (ops_of n) b → x ≡ get_or t.table.items (a * q + b) x → x ≡ (ops_of n).add a b
-      tabled-add a b x e d read =
-          table-value q _ _ a b x (sums_are sum.Tabled is).0 (below a e) (below b d) read ∙ ap (λ m. (ops_of m).add a b) same
+    pub tabled-add : (a b x : ℕ) → IsElem (ops_of n) a → IsElem (ops_of n) b → x ≡ get_or i.sums.table.items (a * q + b) x → x ≡ (ops_of n).add a b
+    tabled-add a b x e d read =
+        table-value q _ _ a b x (sums_are sum.Tabled is).0 (below a e) (below b d) read ∙ ap (λ m. (ops_of m).add a b) same
 
-      pub tabled-neg : (a x : ℕ) → IsElem (ops_of n) a → x ≡ get_or t.negatives.items a x → x ≡ (ops_of n).neg a
-      tabled-neg a x e read =
-          row-value q _ _ a x (sums_are sum.Tabled is).1 (below a e) read ∙ ap (λ m. (ops_of m).neg a) same
+    pub tabled-neg : (a x : ℕ) → IsElem (ops_of n) a → x ≡ get_or i.sums.negatives.items a x → x ≡ (ops_of n).neg a
+    tabled-neg a x e read =
+        row-value q _ _ a x (sums_are sum.Tabled is).1 (below a e) read ∙ ap (λ m. (ops_of m).neg a) same
 
   -- the kind of the products
-  module _ (t : Products) (are : AreProducts k.p (k.s - 1) q k.modulus t) where
-    pub products_are : (kind : ProductKind) → t.kind ≡ kind → AreProductsOf k.p (k.s - 1) q k.modulus t.powers.items t.logs.items kind
-    products_are kind is = subst (AreProductsOf k.p (k.s - 1) q k.modulus t.powers.items t.logs.items) is are
+  pub products_are : (kind : ProductKind) → i.products.kind ≡ kind → AreProductsOf k.p (k.s - 1) q k.modulus i.products.powers.items i.products.logs.items kind
+  products_are kind is = subst (AreProductsOf k.p (k.s - 1) q k.modulus i.products.powers.items i.products.logs.items) is i.are_products
 
-    module _ (is : t.kind ≡ product.Logged) where
-      logs : IsLogTable q (ops_of k).mul t.powers.items t.logs.items
-      logs = products_are product.Logged is
+  module _ (is : i.products.kind ≡ product.Logged) where
+    logs : IsLogTable q (ops_of k).mul i.products.powers.items i.products.logs.items
+    logs = products_are product.Logged is
 
-      pub log_fits : (a : ℕ) → IsElem (ops_of n) a → a < length t.logs.items
-      log_fits a e = subst (λ m. a < m) (sym logs.count) (below a e)
+    pub log_fits : (a : ℕ) → IsElem (ops_of n) a → a < length i.products.logs.items
+    log_fits a e = subst (λ m. a < m) (sym logs.count) (below a e)
 
-      log_read : (a x : ℕ) → IsElem (ops_of n) a → x ≡ get_or t.logs.items a x → x ≡ slice_index t.logs.items a
-      log_read a x e read = get_or_read t.logs.items a x (log_fits a e) read 0
+    log_read : (a x : ℕ) → IsElem (ops_of n) a → x ≡ get_or i.products.logs.items a x → x ≡ slice_index i.products.logs.items a
+    log_read a x e read = get_or_read i.products.logs.items a x (log_fits a e) read 0
 
-      pub power_fits : (a b x y : ℕ) → IsElem (ops_of n) a → IsElem (ops_of n) b → x ≡ get_or t.logs.items a x → y ≡ get_or t.logs.items b y → x + y < length t.powers.items
-      power_fits a b x y e d at_a at_b =
-          subst (λ m. m < length t.powers.items) (sym (ap₂ ◌+◌ (log_read a x e at_a) (log_read b y d at_b))) (logs.fits a b (below a e) (below b d))
+    pub power_fits : (a b x y : ℕ) → IsElem (ops_of n) a → IsElem (ops_of n) b → x ≡ get_or i.products.logs.items a x → y ≡ get_or i.products.logs.items b y → x + y < length i.products.powers.items
+    power_fits a b x y e d at_a at_b =
+        subst (λ m. m < length i.products.powers.items) (sym (ap₂ ◌+◌ (log_read a x e at_a) (log_read b y d at_b))) (logs.fits a b (below a e) (below b d))
 
-      pub logged-mul : (a b x y z : ℕ) → IsElem (ops_of n) a → IsElem (ops_of n) b → x ≡ get_or t.logs.items a x → y ≡ get_or t.logs.items b y
-          → z ≡ get_or t.powers.items (x + y) z → z ≡ (ops_of n).mul a b
-      logged-mul a b x y z e d at_a at_b read =
-          get_or_read t.powers.items (x + y) z (power_fits a b x y e d at_a at_b) read 0
-          ∙ ap (slice_index t.powers.items) (ap₂ ◌+◌ (log_read a x e at_a) (log_read b y d at_b))
-          ∙ logs.value a b (below a e) (below b d) ∙ ap (λ m. (ops_of m).mul a b) same
+    pub logged-mul : (a b x y z : ℕ) → IsElem (ops_of n) a → IsElem (ops_of n) b → x ≡ get_or i.products.logs.items a x → y ≡ get_or i.products.logs.items b y
+        → z ≡ get_or i.products.powers.items (x + y) z → z ≡ (ops_of n).mul a b
+    logged-mul a b x y z e d at_a at_b read =
+        get_or_read i.products.powers.items (x + y) z (power_fits a b x y e d at_a at_b) read 0
+        ∙ ap (slice_index i.products.powers.items) (ap₂ ◌+◌ (log_read a x e at_a) (log_read b y d at_b))
+        ∙ logs.value a b (below a e) (below b d) ∙ ap (λ m. (ops_of m).mul a b) same
 
-      pub log_low : (a x : ℕ) → IsElem (ops_of n) a → 0 < a → x ≡ get_or t.logs.items a x → x < q
-      log_low a x e some read = subst (λ m. m < q) (sym (log_read a x e read)) (logs.low a some (below a e))
+    pub log_low : (a x : ℕ) → IsElem (ops_of n) a → 0 < a → x ≡ get_or i.products.logs.items a x → x < q
+    log_low a x e some read = subst (λ m. m < q) (sym (log_read a x e read)) (logs.low a some (below a e))
 
-      pub powers_long : q ≤ length t.powers.items
-      powers_long = logs.long
+    pub powers_long : q ≤ length i.products.powers.items
+    powers_long = logs.long

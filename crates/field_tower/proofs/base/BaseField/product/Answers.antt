@@ -1,5 +1,5 @@
 use Rattle.std.proofs.Common.{ap, ◌∙◌, rules}
-use Rattle.residue_field.specs.Base.{Base, ops_of}
+use Rattle.residue_field.specs.Base.{ops_of}
 use Rattle.residue_field.proofs.BaseLaws.{base_ring}
 use Rattle.field_tower.proofs.KindValues.{modular-mul, products_are, log_fits, power_fits, logged-mul}
 use Rattle.field_tower.specs.declared.logs.ProductKind.TheVariants as product
@@ -8,34 +8,30 @@ use Rattle.field_tower.proofs.base.BaseField.product.Goals as goal
 pub index-requires : goal.index-requires
 index-requires c =
     let i = c.self.inside in
-    let here : Base = record { p = i.p; s = i.s; modulus = i.modulus.items; is_base = i.is_base } in
     let n = c.args.self.now in
-    let fits = log_fits here i.q i.count n c.self.view_is i.products i.are_products c.in-Logged.is c.args.a c.requires.left in
+    let fits = log_fits i n c.self.view_is c.in-Logged.is c.args.a c.requires.left in
     search (rules, fits)
 
 pub index-requires-in-Logged : goal.index-requires-in-Logged
 index-requires-in-Logged c =
     let i = c.self.inside in
-    let here : Base = record { p = i.p; s = i.s; modulus = i.modulus.items; is_base = i.is_base } in
     let n = c.args.self.now in
-    let fits = log_fits here i.q i.count n c.self.view_is i.products i.are_products c.in-Logged.is c.args.b c.requires.right in
+    let fits = log_fits i n c.self.view_is c.in-Logged.is c.args.b c.requires.right in
     search (rules, fits)
 
 pub index-requires-in-Logged-2 : goal.index-requires-in-Logged-2
 index-requires-in-Logged-2 c =
     let i = c.self.inside in
-    let here : Base = record { p = i.p; s = i.s; modulus = i.modulus.items; is_base = i.is_base } in
     let n = c.args.self.now in
-    let fits = power_fits here i.q i.count n c.self.view_is i.products i.are_products c.in-Logged.is c.args.a c.args.b c.index.result.now c.index-in-Logged.result.now c.requires.left c.requires.right c.index.ensures c.index-in-Logged.ensures in
+    let fits = power_fits i n c.self.view_is c.in-Logged.is c.args.a c.args.b c.index.result.now c.index-in-Logged.result.now c.requires.left c.requires.right c.index.ensures c.index-in-Logged.ensures in
     search (rules, fits)
 
 pub returns-in-Modular-clause-value : goal.returns-in-Modular-clause-value
 returns-in-Modular-clause-value c =
     let i = c.self.inside in
-    let here : Base = record { p = i.p; s = i.s; modulus = i.modulus.items; is_base = i.is_base } in
     let n = c.args.self.now in
-    let one = products_are here i.q i.count n c.self.view_is i.products i.are_products product.Modular c.in-Modular.is in
-    c.remainder.ensures ∙ modular-mul here i.q i.count n c.self.view_is one c.args.a c.args.b c.requires.left c.requires.right
+    let one = products_are i n c.self.view_is product.Modular c.in-Modular.is in
+    c.remainder.ensures ∙ modular-mul i n c.self.view_is one c.args.a c.args.b c.requires.left c.requires.right
 
 pub returns-in-Modular-clause-elem : goal.returns-in-Modular-clause-elem
 returns-in-Modular-clause-elem c =
@@ -44,9 +40,8 @@ returns-in-Modular-clause-elem c =
 pub returns-in-Logged-clause-value : goal.returns-in-Logged-clause-value
 returns-in-Logged-clause-value c =
     let i = c.self.inside in
-    let here : Base = record { p = i.p; s = i.s; modulus = i.modulus.items; is_base = i.is_base } in
     let n = c.args.self.now in
-    logged-mul here i.q i.count n c.self.view_is i.products i.are_products c.in-Logged.is c.args.a c.args.b c.index.result.now c.index-in-Logged.result.now _ c.requires.left c.requires.right c.index.ensures c.index-in-Logged.ensures c.index-in-Logged-2.ensures
+    logged-mul i n c.self.view_is c.in-Logged.is c.args.a c.args.b c.index.result.now c.index-in-Logged.result.now _ c.requires.left c.requires.right c.index.ensures c.index-in-Logged.ensures c.index-in-Logged-2.ensures
 
 pub returns-in-Logged-clause-elem : goal.returns-in-Logged-clause-elem
 returns-in-Logged-clause-elem c =

@@ -1,5 +1,5 @@
 use Rattle.std.proofs.Common.{◌<◌, ap, ◌∙◌, rules, arith}
-use Rattle.residue_field.specs.Base.{Base, ops_of}
+use Rattle.residue_field.specs.Base.{ops_of}
 use Rattle.residue_field.proofs.BaseLaws.{base_ring}
 use Rattle.field_tower.proofs.KindValues.{modular_below, modular-add, sums_are, binary-add, sum_fits, tabled-add}
 use Rattle.field_tower.specs.declared.tables.SumKind.TheVariants as sum
@@ -8,28 +8,25 @@ use Rattle.field_tower.proofs.base.BaseFieldField.add.Goals as goal
 pub less_once-requires : goal.less_once-requires
 less_once-requires c =
     let i = c.self.inside in
-    let here : Base = record { p = i.p; s = i.s; modulus = i.modulus.items; is_base = i.is_base } in
     let n = c.args.self.now in
-    let one = sums_are here i.q i.count n c.self.view_is i.sums i.are_sums sum.Modular c.in-Modular.is in
-    let left : c.args.a < i.p = modular_below here i.q i.count n c.self.view_is one c.args.a c.requires.left in
-    let right : c.args.b < i.p = modular_below here i.q i.count n c.self.view_is one c.args.b c.requires.right in
+    let one = sums_are i n c.self.view_is sum.Modular c.in-Modular.is in
+    let left : c.args.a < i.p = modular_below i n c.self.view_is one c.args.a c.requires.left in
+    let right : c.args.b < i.p = modular_below i n c.self.view_is one c.args.b c.requires.right in
     omega arith
 
 pub index-requires : goal.index-requires
 index-requires c =
     let i = c.self.inside in
-    let here : Base = record { p = i.p; s = i.s; modulus = i.modulus.items; is_base = i.is_base } in
     let n = c.args.self.now in
-    let fits = sum_fits here i.q i.count n c.self.view_is i.sums i.are_sums c.in-Tabled.is c.args.a c.args.b c.requires.left c.requires.right in
+    let fits = sum_fits i n c.self.view_is c.in-Tabled.is c.args.a c.args.b c.requires.left c.requires.right in
     search (rules, fits)
 
 pub returns-in-Modular-clause-value : goal.returns-in-Modular-clause-value
 returns-in-Modular-clause-value c =
     let i = c.self.inside in
-    let here : Base = record { p = i.p; s = i.s; modulus = i.modulus.items; is_base = i.is_base } in
     let n = c.args.self.now in
-    let one = sums_are here i.q i.count n c.self.view_is i.sums i.are_sums sum.Modular c.in-Modular.is in
-    c.less_once.ensures ∙ modular-add here i.q i.count n c.self.view_is one c.args.a c.args.b c.requires.left c.requires.right
+    let one = sums_are i n c.self.view_is sum.Modular c.in-Modular.is in
+    c.less_once.ensures ∙ modular-add i n c.self.view_is one c.args.a c.args.b c.requires.left c.requires.right
 
 pub returns-in-Modular-clause-elem : goal.returns-in-Modular-clause-elem
 returns-in-Modular-clause-elem c =
@@ -38,9 +35,8 @@ returns-in-Modular-clause-elem c =
 pub returns-in-Binary-clause-value : goal.returns-in-Binary-clause-value
 returns-in-Binary-clause-value c =
     let i = c.self.inside in
-    let here : Base = record { p = i.p; s = i.s; modulus = i.modulus.items; is_base = i.is_base } in
     let n = c.args.self.now in
-    binary-add here i.q i.count n c.self.view_is (sums_are here i.q i.count n c.self.view_is i.sums i.are_sums sum.Binary c.in-Binary.is) c.args.a c.args.b c.requires.left c.requires.right
+    binary-add i n c.self.view_is (sums_are i n c.self.view_is sum.Binary c.in-Binary.is) c.args.a c.args.b c.requires.left c.requires.right
 
 pub returns-in-Binary-clause-elem : goal.returns-in-Binary-clause-elem
 returns-in-Binary-clause-elem c =
@@ -49,9 +45,8 @@ returns-in-Binary-clause-elem c =
 pub returns-in-Tabled-clause-value : goal.returns-in-Tabled-clause-value
 returns-in-Tabled-clause-value c =
     let i = c.self.inside in
-    let here : Base = record { p = i.p; s = i.s; modulus = i.modulus.items; is_base = i.is_base } in
     let n = c.args.self.now in
-    tabled-add here i.q i.count n c.self.view_is i.sums i.are_sums c.in-Tabled.is c.args.a c.args.b _ c.requires.left c.requires.right c.index.ensures
+    tabled-add i n c.self.view_is c.in-Tabled.is c.args.a c.args.b _ c.requires.left c.requires.right c.index.ensures
 
 pub returns-in-Tabled-clause-elem : goal.returns-in-Tabled-clause-elem
 returns-in-Tabled-clause-elem c =

@@ -1,5 +1,5 @@
 use Rattle.std.proofs.Common.{◌<◌, ap, ◌∙◌, rules, arith}
-use Rattle.residue_field.specs.Base.{Base, ops_of}
+use Rattle.residue_field.specs.Base.{ops_of}
 use Rattle.residue_field.proofs.BaseLaws.{base_ring}
 use Rattle.residue_field.proofs.Listed.{listed_large}
 use Rattle.field_tower.proofs.KindValues.{modular_below, modular-neg, sums_are, binary-neg, negative_fits, tabled-neg}
@@ -9,16 +9,14 @@ use Rattle.field_tower.proofs.base.BaseFieldField.neg.Goals as goal
 pub overflow_sub-self-inside : goal.overflow_sub-self-inside
 overflow_sub-self-inside c =
     let i = c.self.inside in
-    let here : Base = record { p = i.p; s = i.s; modulus = i.modulus.items; is_base = i.is_base } in
     let n = c.args.self.now in
-    let one = sums_are here i.q i.count n c.self.view_is i.sums i.are_sums sum.Modular c.in-Modular.is in
-    let low : c.args.a < i.p = modular_below here i.q i.count n c.self.view_is one c.args.a c.requires in
+    let one = sums_are i n c.self.view_is sum.Modular c.in-Modular.is in
+    let low : c.args.a < i.p = modular_below i n c.self.view_is one c.args.a c.requires in
     omega arith
 
 pub less_once-requires : goal.less_once-requires
 less_once-requires c =
     let i = c.self.inside in
-    let here : Base = record { p = i.p; s = i.s; modulus = i.modulus.items; is_base = i.is_base } in
     let n = c.args.self.now in
     let large : 1 < i.p = listed_large i.p i.is_base.listed in
     omega arith
@@ -26,18 +24,16 @@ less_once-requires c =
 pub index-requires : goal.index-requires
 index-requires c =
     let i = c.self.inside in
-    let here : Base = record { p = i.p; s = i.s; modulus = i.modulus.items; is_base = i.is_base } in
     let n = c.args.self.now in
-    let fits = negative_fits here i.q i.count n c.self.view_is i.sums i.are_sums c.in-Tabled.is c.args.a c.requires in
+    let fits = negative_fits i n c.self.view_is c.in-Tabled.is c.args.a c.requires in
     search (rules, fits)
 
 pub returns-in-Modular-clause-value : goal.returns-in-Modular-clause-value
 returns-in-Modular-clause-value c =
     let i = c.self.inside in
-    let here : Base = record { p = i.p; s = i.s; modulus = i.modulus.items; is_base = i.is_base } in
     let n = c.args.self.now in
-    let one = sums_are here i.q i.count n c.self.view_is i.sums i.are_sums sum.Modular c.in-Modular.is in
-    c.less_once.ensures ∙ modular-neg here i.q i.count n c.self.view_is one c.args.a c.requires
+    let one = sums_are i n c.self.view_is sum.Modular c.in-Modular.is in
+    c.less_once.ensures ∙ modular-neg i n c.self.view_is one c.args.a c.requires
 
 pub returns-in-Modular-clause-elem : goal.returns-in-Modular-clause-elem
 returns-in-Modular-clause-elem c =
@@ -46,16 +42,14 @@ returns-in-Modular-clause-elem c =
 pub returns-in-Binary-clause-value : goal.returns-in-Binary-clause-value
 returns-in-Binary-clause-value c =
     let i = c.self.inside in
-    let here : Base = record { p = i.p; s = i.s; modulus = i.modulus.items; is_base = i.is_base } in
     let n = c.args.self.now in
-    binary-neg here i.q i.count n c.self.view_is (sums_are here i.q i.count n c.self.view_is i.sums i.are_sums sum.Binary c.in-Binary.is) c.args.a c.requires
+    binary-neg i n c.self.view_is (sums_are i n c.self.view_is sum.Binary c.in-Binary.is) c.args.a c.requires
 
 pub returns-in-Tabled-clause-value : goal.returns-in-Tabled-clause-value
 returns-in-Tabled-clause-value c =
     let i = c.self.inside in
-    let here : Base = record { p = i.p; s = i.s; modulus = i.modulus.items; is_base = i.is_base } in
     let n = c.args.self.now in
-    tabled-neg here i.q i.count n c.self.view_is i.sums i.are_sums c.in-Tabled.is c.args.a _ c.requires c.index.ensures
+    tabled-neg i n c.self.view_is c.in-Tabled.is c.args.a _ c.requires c.index.ensures
 
 pub returns-in-Tabled-clause-elem : goal.returns-in-Tabled-clause-elem
 returns-in-Tabled-clause-elem c =
