@@ -1,8 +1,8 @@
 -- The action of polynomials over the base on a twisted polynomial: it keeps sums and products, and its
 -- images commute with the image of the letter. Images by Horner's rule.
-use Rattle.std.proofs.Common.{◌≡◌, ◌≢◌, ℕ, suc, ◌+◌, ◌-◌, ◌<◌, ◌≤◌, max, true, Option, List, ◌∷◌, length, drop, refl, sym, ◌∙◌, ap, ap₂, ⊎_elim, arith}
+use Rattle.std.proofs.Common.{◌≡◌, ℕ, zero, suc, ◌+◌, ◌-◌, ◌<◌, ◌≤◌, max, true, Option, List, ◌∷◌, length, drop, refl, sym, ◌∙◌, ap, ap₂, arith}
 use mathlib.Core.Path.{fun_ext}
-use Rattle.std.proofs.lemmas.Bool.{and_parts, cases_eq}
+use Rattle.std.proofs.lemmas.Bool.{and_parts}
 use Rattle.std.proofs.lemmas.List.{drop_more}
 use Rattle.ring_core.specs.Ring.{RingOps, IsElem}
 use Rattle.ring_core.specs.Field.{IsField, FrobOps, IsFrobField}
@@ -36,49 +36,46 @@ module _ {E B : Type 0} (r : RingOps E) (inv : E → Option E) (base : RingOps B
   abbrev pub up : Element base → Ores r inv base f k l
   up b = (constant r (f.embed b.0), monomial_in r k.ring (f.embed b.0) 0 (l.embed_in b.0 b.1))
 
+  constant_elems : (x : E) → IsElem r x → are_elems r (constant r x) ≡ true
+  constant_elems x p = (and_parts _ _ (monomial_in r k.ring x 0 p)).0
+
+  -- a polynomial with no coefficients past the first is a constant
+  constant_is : (x : E) (u : List E) → IsElem r x → is_canonical r u ≡ true → coeff r u 0 ≡ x → ((i : ℕ) → coeff r u (suc i) ≡ r.zero) → constant r x ≡ u
+  constant_is x u p c first past =
+      same_coeffs r k.ring.closed.zero_in k.ring.equal (constant r x) u (and_parts _ _ (monomial_in r k.ring x 0 p)).1 (and_parts _ _ c).1 (each x u p first past)
+    where
+      each : (x : E) (u : List E) → IsElem r x → coeff r u 0 ≡ x → ((i : ℕ) → coeff r u (suc i) ≡ r.zero) → (i : ℕ) → coeff r (constant r x) i ≡ coeff r u i
+      each x u p first past zero = coeff-monomial_same r k.ring x 0 p ∙ sym first
+      each x u p first past (suc i) = coeff-monomial_other r k.ring x 0 (suc i) p (λ e. cc) ∙ sym (past i)
+
   -- constants keep sums and products
   constant_add : (a b : E) → IsElem r a → IsElem r b → constant r (r.add a b) ≡ list_add r (constant r a) (constant r b)
   constant_add a b p q =
-      let s = k.ring.closed.add_in a b p q in
-      let z = k.ring.closed.zero_in in
-      let in_a = and_parts (are_elems r (constant r a)) _ (monomial_in r k.ring a 0 p) in
-      let in_b = and_parts (are_elems r (constant r b)) _ (monomial_in r k.ring b 0 q) in
-      same_coeffs r z k.ring.equal (constant r (r.add a b)) (list_add r (constant r a) (constant r b)) (and_parts _ _ (monomial_in r k.ring (r.add a b) 0 s)).1
-      (and_parts _ _ (add_in r k.ring (constant r a) (constant r b) in_a.0 in_b.0)).1
+      let ea = constant_elems a p in
+      let eb = constant_elems b q in
+      constant_is (r.add a b) _ (k.ring.closed.add_in a b p q) (add_in r k.ring _ _ ea eb)
+      (coeff-add r k.ring _ _ ea eb 0 ∙ ap₂ r.add (coeff-monomial_same r k.ring a 0 p) (coeff-monomial_same r k.ring b 0 q))
       (λ i.
-      ⊎_elim
-      (λ (here : i ≡ 0).
-      ap (coeff r (constant r (r.add a b))) here ∙ coeff-monomial_same r k.ring (r.add a b) 0 s
-      ∙ sym (ap₂ r.add (ap (coeff r (constant r a)) here ∙ coeff-monomial_same r k.ring a 0 p) (ap (coeff r (constant r b)) here ∙ coeff-monomial_same r k.ring b 0 q)))
-      (λ (other : i ≢ 0).
-      coeff-monomial_other r k.ring (r.add a b) 0 i s other ∙ sym (k.ring.zero_add r.zero z)
-      ∙ sym (ap₂ r.add (coeff-monomial_other r k.ring a 0 i p other) (coeff-monomial_other r k.ring b 0 i q other)))
-      (cases_eq i 0)
-      ∙ sym (coeff-add r k.ring (constant r a) (constant r b) in_a.0 in_b.0 i))
+      coeff-add r k.ring _ _ ea eb (suc i)
+      ∙ ap₂ r.add (coeff-monomial_other r k.ring a 0 (suc i) p (λ e. cc)) (coeff-monomial_other r k.ring b 0 (suc i) q (λ e. cc))
+      ∙ k.ring.zero_add r.zero k.ring.closed.zero_in)
 
   constant_times : (a b : E) → IsElem r a → IsElem r b → constant r (r.mul a b) ≡ list_mul r f.frob (constant r a) (constant r b)
   constant_times a b p q =
-      let s = k.ring.closed.mul_in a b p q in
-      let z = k.ring.closed.zero_in in
-      let in_a = and_parts (are_elems r (constant r a)) _ (monomial_in r k.ring a 0 p) in
-      let in_b = and_parts (are_elems r (constant r b)) _ (monomial_in r k.ring b 0 q) in
-      same_coeffs r z k.ring.equal (constant r (r.mul a b)) (list_mul r f.frob (constant r a) (constant r b)) (and_parts _ _ (monomial_in r k.ring (r.mul a b) 0 s)).1
-      (and_parts _ _ (mul_in r k.ring f.frob t (constant r a) (constant r b) in_a.0 in_b.0)).1
+      let ea = constant_elems a p in
+      let eb = constant_elems b q in
+      constant_is (r.mul a b) _ (k.ring.closed.mul_in a b p q) (mul_in r k.ring f.frob t _ _ ea eb)
+      (times a b p q ea eb 0 ∙ ap (r.mul a) (coeff-monomial_same r k.ring b 0 q))
       (λ i.
-      let place : i - 0 ≡ i = omega arith in
-      let read = value r k.ring (constant r b) in_b.0 in
-      ⊎_elim
-      (λ (here : i ≡ 0).
-      ap (coeff r (constant r (r.mul a b))) here ∙ coeff-monomial_same r k.ring (r.mul a b) 0 s
-      ∙ sym (ap (r.mul a) (ap (coeff r (constant r b)) here ∙ coeff-monomial_same r k.ring b 0 q)))
-      (λ (other : i ≢ 0).
-      coeff-monomial_other r k.ring (r.mul a b) 0 i s other ∙ sym (ap (λ y. y.0) (mul_zero (elements k.ring) (a, p)))
-      ∙ sym (ap (r.mul a) (coeff-monomial_other r k.ring b 0 i q other)))
-      (cases_eq i 0)
-      ∙ sym
-      (coeff-mul r k.ring f.frob t (constant r a) (constant r b) in_a.0 in_b.0 i
-      ∙ monomial_product r k.ring f.frob t a 0 (constant r b) p in_b.0 i (omega arith)
-      ∙ ap (r.mul a) (l.frob_zero _ (read (i - 0)).1 ∙ ap (coeff r (constant r b)) place)))
+      times a b p q ea eb (suc i) ∙ ap (r.mul a) (coeff-monomial_other r k.ring b 0 (suc i) q (λ e. cc))
+      ∙ ap (λ y. y.0) (mul_zero (elements k.ring) (a, p)))
+    where
+      times : (a b : E) → IsElem r a → IsElem r b → are_elems r (constant r a) ≡ true → (eb : are_elems r (constant r b) ≡ true) (i : ℕ)
+          → coeff r (list_mul r f.frob (constant r a) (constant r b)) i ≡ r.mul a (coeff r (constant r b) i)
+      times a b p q ea eb i =
+          let place : i - 0 ≡ i = omega arith in
+          coeff-mul r k.ring f.frob t (constant r a) (constant r b) ea eb i ∙ monomial_product r k.ring f.frob t a 0 (constant r b) p eb i (omega arith)
+          ∙ ap (r.mul a) (l.frob_zero _ (value r k.ring (constant r b) eb (i - 0)).1 ∙ ap (coeff r (constant r b)) place)
 
   module _ (phi : List E) (c : is_canonical r phi ≡ true) where
     abbrev pub point : Ores r inv base f k l
@@ -155,21 +152,13 @@ module _ {E B : Type 0} (r : RingOps E) (inv : E → Option E) (base : RingOps B
     image_cons : (x : B) (u : List B) → are_elems base (x ∷ u) ≡ true → image r base f phi (x ∷ u) ≡ list_add r (constant r (f.embed x)) (list_mul r f.frob (image r base f phi u) phi)
     image_cons x u e =
         let eu : are_elems base u ≡ true = (and_parts (base.is_elem x) _ e).1 in
-        let own = coeffs (x ∷ u) e in
-        let split : at (length (x ∷ u)) own ≡ S.add (up (own 0)) (S.mul (at (length u) (λ i. own (suc i))) point) = point_first K S up point acts (length u) own in
-        let rest : (λ (i : ℕ). own (suc i)) ≡ coeffs u eu = fun_ext (λ i. same_element base (own (suc i)) (coeffs u eu i) refl) in
-        sym (image_is (x ∷ u) e) ∙ ap (λ v. v.0) split
+        let rest : (λ (i : ℕ). coeffs (x ∷ u) e (suc i)) ≡ coeffs u eu = fun_ext (λ i. same_element base _ _ refl) in
+        sym (image_is (x ∷ u) e) ∙ ap (λ v. v.0) (point_first K S up point acts (length u) (coeffs (x ∷ u) e))
         ∙ ap (λ v. list_add r (constant r (f.embed x)) (list_mul r f.frob v phi)) (ap (λ c. (at (length u) c).0) rest ∙ image_is u eu)
 
     -- one step of Horner's rule, from the top down
-    pub image_step : (a : List B) (i j : ℕ) (x : B) (one shifted sum : List E) → are_elems base a ≡ true → 0 < i → i ≤ length a → j ≡ i - 1 → x ≡ coeff base a j → one ≡ constant r (f.embed x)
-        → shifted ≡ list_mul r f.frob (image r base f phi (drop i a)) phi → sum ≡ list_add r one shifted → sum ≡ image r base f phi (drop j a)
-    image_step a i j x one shifted sum e pos most is_j is_x is_one is_shifted is_sum =
-        let within : j < length a = omega arith in
-        let next : i ≡ j + 1 = omega arith in
+    pub image_step : (a : List B) (j : ℕ) → are_elems base a ≡ true → j < length a
+        → image r base f phi (drop j a) ≡ list_add r (constant r (f.embed (coeff base a j))) (list_mul r f.frob (image r base f phi (drop (j + 1) a)) phi)
+    image_step a j e within =
         let split : drop j a ≡ coeff base a j ∷ drop (j + 1) a = drop_more a j base.zero within in
-        let elems : are_elems base (coeff base a j ∷ drop (j + 1) a) ≡ true = ap (are_elems base) (sym split) ∙ elems_drop base kb.ring j a e in
-        is_sum
-        ∙ ap₂ (list_add r) (is_one ∙ ap (λ y. constant r (f.embed y)) is_x)
-        (is_shifted ∙ ap (λ n. list_mul r f.frob (image r base f phi (drop n a)) phi) next)
-        ∙ sym (ap (image r base f phi) split ∙ image_cons (coeff base a j) (drop (j + 1) a) elems)
+        ap (image r base f phi) split ∙ image_cons (coeff base a j) (drop (j + 1) a) (ap (are_elems base) (sym split) ∙ elems_drop base kb.ring j a e)

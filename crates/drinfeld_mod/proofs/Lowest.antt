@@ -1,64 +1,37 @@
 -- A twisted polynomial that isn't zero has a lowest term; a module has one height, and it exists.
-use Rattle.std.proofs.Common.{◌≡◌, ◌≢◌, ℕ, zero, suc, ◌-◌, ◌*◌, ◌/◌, ◌<◌, ◌≤◌, ◌⊎◌, inl, inr, true, false, Option, List, [], ◌∷◌, length, refl, ◌∙◌, ap, subst, ⊎_elim, arith}
-use Rattle.std.proofs.lemmas.Bool.{and_parts, both_ways, cases_Bool, cases_lt}
+use Rattle.std.proofs.Common.{◌≡◌, ◌≢◌, ℕ, ◌-◌, ◌*◌, ◌/◌, ◌<◌, ◌≤◌, inl, inr, true, Option, List, [], length, subst, ⊎_elim, arith}
+use Rattle.std.proofs.lemmas.Bool.{and_parts, cases_lt}
 use Rattle.std.proofs.Math.Nat.{eq_of_mul-eq-mul_right}
 use Rattle.ring_core.specs.Ring.{RingOps, IsElem, SameDecides}
 use Rattle.ring_core.specs.Field.{IsField, FrobOps, IsFrobField}
 use Rattle.ring_core.specs.Coeffs.{coeff, are_elems, is_canonical}
 use Rattle.ring_core.proofs.Coefficients.{elem_read}
-use Rattle.ring_core.proofs.Degrees.{top_nonzero}
+use Rattle.ring_core.proofs.Degrees.{top_nonzero, has_members}
 use Rattle.minimal_poly.proofs.MinPoly.{same_poly}
 use Rattle.ore_poly.specs.Terms.{IsLowest}
 use Rattle.drinfeld_mod.specs.Module.{IsModule, rank_of, constant_of}
 use Rattle.drinfeld_mod.specs.Image.{image}
 use Rattle.drinfeld_mod.specs.Height.{IsCharacteristic, IsHeight}
+use Rattle.drinfeld_mod.proofs.Modules.{equal_or_not}
 use Rattle.drinfeld_mod.proofs.Actions.{image_in}
-use Rattle.drinfeld_mod.proofs.Periods.{least_exists}
+use Rattle.drinfeld_mod.proofs.Periods.{least_of, least_exists}
 use Rattle.drinfeld_mod.proofs.Heights.{image_nonzero, degree_positive, height_found}
 
 module _ {E : Type 0} (r : RingOps E) (z : IsElem r r.zero) (d : SameDecides r) where
-  -- the lowest coefficient that isn't zero, or none
-  lowest_or_zero : (u : List E) → are_elems r u ≡ true → ((i : ℕ) × IsLowest r u i) ⊎ ((i : ℕ) → coeff r u i ≡ r.zero)
-  lowest_or_zero [] e = inr (λ i. refl)
-  lowest_or_zero (x ∷ xs) e =
-      let parts = and_parts (r.is_elem x) _ e in
-      ⊎_elim
-      (λ (same : r.same x r.zero ≡ true).
-      let here : x ≡ r.zero = d.same_eq x r.zero parts.0 z same in
-      ⊎_elim
-      (λ found. inl (suc found.0, later x xs found.0 here found.1))
-      (λ (zeros : (i : ℕ) → coeff r xs i ≡ r.zero). inr (all_zero x xs here zeros))
-      (lowest_or_zero xs parts.1))
-      (λ (other : r.same x r.zero ≡ false).
-      inl (
-        0,
-        record {
-          within = omega arith;
-          nonzero = λ is. both_ways (r.same x r.zero) other (ap (λ y. r.same y r.zero) is ∙ d.same_refl r.zero z);
-          below = λ j l. absurd (omega arith);
-        },
-      ))
-      (cases_Bool (r.same x r.zero))
-    where
-      all_zero : (x : E) (xs : List E) → x ≡ r.zero → ((i : ℕ) → coeff r xs i ≡ r.zero) → (i : ℕ) → coeff r (x ∷ xs) i ≡ r.zero
-      all_zero x xs here zeros zero = here
-      all_zero x xs here zeros (suc i) = zeros i
-
-      below_later : (x : E) (xs : List E) (i : ℕ) → x ≡ r.zero → ((j : ℕ) → j < i → coeff r xs j ≡ r.zero) → (j : ℕ) → j < suc i → coeff r (x ∷ xs) j ≡ r.zero
-      below_later x xs i here below zero l = here
-      below_later x xs i here below (suc j) l = below j (omega arith)
-
-      later : (x : E) (xs : List E) (i : ℕ) → x ≡ r.zero → IsLowest r xs i → IsLowest r (x ∷ xs) (suc i)
-      later x xs i here low = record {
-        within = omega (arith, low.within);
-        nonzero = low.nonzero;
-        below = below_later x xs i here low.below;
-      }
-
+  -- the lowest coefficient that isn't zero
   pub lowest_exists : (u : List E) → is_canonical r u ≡ true → u ≢ [] → (i : ℕ) × IsLowest r u i
   lowest_exists u c some =
       let parts = and_parts (are_elems r u) _ c in
-      ⊎_elim (λ found. found) (λ (zeros : (i : ℕ) → coeff r u i ≡ r.zero). absurd (top_nonzero r z d u parts.1 some (zeros (length u - 1)))) (lowest_or_zero u parts.0)
+      let decided = λ (i : ℕ). equal_or_not r d (coeff r u i) r.zero (elem_read r u z parts.0 i) z in
+      let found =
+      least_of (λ i. coeff r u i ≢ r.zero) (λ i. ⊎_elim (λ e. inr (λ ne. ne e)) (λ ne. inl ne) (decided i)) (length u - 1) (top_nonzero r z d u parts.1 some) in (
+        found.0,
+        record {
+          within = omega (arith, found.1, has_members u some);
+          nonzero = found.2.holds;
+          below = λ j l. ⊎_elim (λ e. e) (λ ne. absurd (found.2.least j l ne)) (decided j);
+        },
+      )
 
   -- and only one
   pub lowest_only : (u : List E) (i j : ℕ) → IsLowest r u i → IsLowest r u j → i ≡ j
@@ -85,15 +58,12 @@ module _ {E B : Type 0} (r : RingOps E) (inv : E → Option E) (base : RingOps B
       let low =
       lowest_exists r k.ring.closed.zero_in k.ring.equal (image r base f phi p.0) (image_in r inv base base_inv f k kb l phi m.canonical p.0 elems)
       (image_nonzero r inv base base_inv f k kb l phi m p.0 p.1) in
-      let h = low.0 / (length p.0 - 1) in
-      let found = height_found r inv base base_inv f k kb l phi m p.0 p.1 low.0 h low.1 refl in
-      (h, found.0, found.1, found.2)
+      let found = height_found r inv base base_inv f k kb l phi m p.0 p.1 low.0 low.1 in
+      (low.0 / (length p.0 - 1), found.0, found.1, found.2)
 
   pub one_height : (g h : ℕ) → IsHeight r base f phi g → IsHeight r base f phi h → g ≡ h
   one_height g h a b =
       let same : b.p ≡ a.p = one_characteristic b.p a.p b.characteristic a.characteristic in
       let low : IsLowest r (image r base f phi a.p) (h * (length a.p - 1)) = subst (λ p. IsLowest r (image r base f phi p) (h * (length p - 1))) same b.lowest in
-      let places : g * (length a.p - 1) ≡ h * (length a.p - 1) =
-      lowest_only r k.ring.closed.zero_in k.ring.equal (image r base f phi a.p) (g * (length a.p - 1)) (h * (length a.p - 1)) a.lowest low in
-      let positive : 0 < length a.p - 1 = degree_positive r inv base base_inv f k kb l phi m a.p a.characteristic (g * (length a.p - 1)) a.lowest in
-      eq_of_mul-eq-mul_right (length a.p - 1) positive g h places
+      eq_of_mul-eq-mul_right (length a.p - 1) (degree_positive r inv base base_inv f k kb l phi m a.p a.characteristic _ a.lowest) g h
+      (lowest_only r k.ring.closed.zero_in k.ring.equal (image r base f phi a.p) _ _ a.lowest low)

@@ -18,6 +18,17 @@ abbrev pub roots : {M : Type 0} → RingOn M → (ℕ → M) → ℕ → ℕ →
 roots R c zero = unit R
 roots R c (suc n) = linear R (c n) (roots R c n)
 
+-- A map of rings takes the value of a polynomial to that of its image.
+module _ {M N : Type 0} (R : RingOn M) (S : RingOn N) (s : M → N) (none : s R.zero ≡ S.zero) (one : s R.one ≡ S.one)
+    (add : (x y : M) → s (R.add x y) ≡ S.add (s x) (s y)) (mul : (x y : M) → s (R.mul x y) ≡ S.mul (s x) (s y)) where
+  map_power : (x : M) (n : ℕ) → s (power R x n) ≡ power S (s x) n
+  map_power x zero = one
+  map_power x (suc n) = mul _ x ∙ ap (λ y. S.mul y (s x)) (map_power x n)
+
+  pub map_value : (n : ℕ) (c : ℕ → M) (x : M) → s (total R n (λ i. R.mul (c i) (power R x i))) ≡ total S n (λ i. S.mul (s (c i)) (power S (s x) i))
+  map_value zero c x = none
+  map_value (suc n) c x = add _ _ ∙ ap₂ S.add (map_value n c x) (mul (c n) _ ∙ ap (S.mul (s (c n))) (map_power x n))
+
 module _ {M : Type 0} (R : RingOn M) where
   shift_linear : (a : M) (f g : ℕ → M) (i : ℕ) → shift R (λ j. R.add (f j) (R.neg (R.mul a (g j)))) i ≡ R.add (shift R f i) (R.neg (R.mul a (shift R g i)))
   shift_linear a f g zero = sym (ap (R.add R.zero) (ap R.neg (mul_zero R a) ∙ neg_zero R) ∙ R.zero_add R.zero)

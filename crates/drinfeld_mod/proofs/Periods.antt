@@ -1,54 +1,45 @@
 -- The degree of the minimal polynomial of an element is the number of steps after which the Frobenius first
 -- brings it back; so it divides every such number.
-use Rattle.std.proofs.Common.{◌≡◌, ◌≢◌, ℕ, zero, suc, ◌+◌, ◌-◌, ◌*◌, ◌/◌, ◌%◌, ◌<◌, ◌≤◌, ◌⊎◌, inl, inr, true, false, Option, List, [], length, refl, sym, ◌∙◌, ap, ap₂, subst, ⊎_elim, arith}
+use Rattle.std.proofs.Common.{◌≡◌, ◌≢◌, ℕ, zero, suc, ◌+◌, ◌-◌, ◌*◌, ◌/◌, ◌%◌, ◌<◌, ◌≤◌, ◌⊎◌, inl, inr, true, Option, List, [], length, refl, sym, ◌∙◌, ap, ap₂, subst, ⊎_elim, arith}
 use Rattle.std.proofs.Math.Nat.{div-add-mod, mod-lt}
-use Rattle.std.proofs.lemmas.Bool.{and_parts, and_from, both_ways, cases_lt, cases_eq, cases_Bool, false_from_ne_true}
+use Rattle.std.proofs.lemmas.Bool.{and_parts, and_from, cases_lt, false_from_ne_true}
 use mathlib.Core.Path.{fun_ext}
 use Rattle.ring_core.specs.Ring.{RingOps, IsElem}
 use Rattle.ring_core.specs.Field.{IsField, FrobOps, IsFrobField}
-use Rattle.ring_core.specs.Coeffs.{coeff, sum_below, are_elems, is_trimmed, is_canonical, first_values}
+use Rattle.ring_core.specs.Coeffs.{coeff, sum_below, are_elems, is_canonical, first_values}
 use Rattle.ring_core.specs.Powers.{base_value}
 use Rattle.ring_core.proofs.Carrier.{RingOn, Element, same_element, elements}
-use Rattle.ring_core.proofs.Series.{IsEndo, total}
-use Rattle.ring_core.proofs.Coefficients.{elem_read, elems-first_values, trimmed_push}
-use Rattle.ring_core.proofs.FirstValues.{length-first_values, values_pushed, at-first_values}
+use Rattle.ring_core.proofs.Series.{total}
+use Rattle.ring_core.proofs.Coefficients.{elem_read, elems-first_values}
+use Rattle.ring_core.proofs.FirstValues.{length-first_values, at-first_values}
 use Rattle.ring_core.proofs.Twist.{IsTwist, frob_twist, twist, twist_endo, total_is, embed_zero, embed_one}
-use Rattle.ring_core.proofs.Degrees.{top_nonzero, has_members}
+use Rattle.ring_core.proofs.Degrees.{top_nonzero, not_empty, has_members}
 use Rattle.finite_ring.proofs.Powers.{power, power_value}
 use Rattle.linear_algebra.proofs.Sums.{total_same}
-use Rattle.linear_algebra.proofs.Dependent.{IsDomain, field_domain}
+use Rattle.linear_algebra.proofs.Dependent.{field_domain}
 use Rattle.twist_theory.proofs.FewRoots.{is_polynomial, few_roots}
 use Rattle.minimal_poly.specs.MinPoly.{IsMinPoly}
-use Rattle.drinfeld_mod.proofs.Orbits.{roots, roots_top, roots_endo, roots_cycle, roots_value}
+use Rattle.drinfeld_mod.proofs.Modules.{equal_or_not, trimmed_by_top}
+use Rattle.drinfeld_mod.proofs.Orbits.{map_value, roots, roots_top, roots_endo, roots_cycle, roots_value}
 
--- d is the least positive number with P.
-pub record IsLeastPositive (P : ℕ → Type 0) (d : ℕ) : Type 0 where
-  pub positive : 0 < d
-  pub holds : P d
-  pub least : (i : ℕ) → 0 < i → i < d → P i → ⊥
+-- n is the least number with P.
+pub record IsLeast (P : ℕ → Type 0) (n : ℕ) : Type 0 where
+  pub holds : P n
+  pub least : (i : ℕ) → i < n → P i → ⊥
 
--- Up to n there is a least positive number with P, or none.
-pub least_up_to : (P : ℕ → Type 0) → ((i : ℕ) → P i ⊎ (P i → ⊥)) → (n : ℕ) → ((d : ℕ) × IsLeastPositive P d) ⊎ ((i : ℕ) → 0 < i → i ≤ n → P i → ⊥)
-least_up_to P dec zero = inr (λ i l m p. absurd (omega arith))
-least_up_to P dec (suc n) =
-    ⊎_elim
-    (λ found. inl found)
-    (λ (none : (i : ℕ) → 0 < i → i ≤ n → P i → ⊥).
-    ⊎_elim
-    (λ (yes : P (suc n)). inl (suc n, record { positive = omega arith; holds = yes; least = λ i l m p. none i l (omega arith) p }))
-    (λ (no : P (suc n) → ⊥).
-    inr (λ i l m p. ⊎_elim (λ (last : i ≡ suc n). no (subst P last p)) (λ (other : i ≡ suc n → ⊥). none i l (omega arith) p) (cases_eq i (suc n))))
-    (dec (suc n)))
-    (least_up_to P dec n)
-
-module _ {M : Type 0} (R : RingOn M) where
-  total_endo : (s : M → M) → IsEndo R s → (n : ℕ) (g : ℕ → M) → s (total R n g) ≡ total R n (λ i. s (g i))
-  total_endo s h zero g = h.zero
-  total_endo s h (suc n) g = h.add _ _ ∙ ap (λ y. R.add y (s (g n))) (total_endo s h n g)
-
-  power_endo : (s : M → M) → IsEndo R s → (x : M) (n : ℕ) → s (power R x n) ≡ power R (s x) n
-  power_endo s h x zero = h.one
-  power_endo s h x (suc n) = h.mul _ x ∙ ap (λ y. R.mul y (s x)) (power_endo s h x n)
+-- Where a number has P, there is a least.
+pub least_of : (P : ℕ → Type 0) → ((i : ℕ) → P i ⊎ (P i → ⊥)) → (n : ℕ) → P n → (m : ℕ) × (m ≤ n) × IsLeast P m
+least_of P dec zero p = (0, omega arith, record { holds = p; least = λ i l q. absurd (omega arith) })
+least_of P dec (suc n) p = elim (dec 0) [
+  | inl q ↦ (0, omega arith, record { holds = q; least = λ i l w. absurd (omega arith) })
+  | inr none ↦
+      let found = least_of (λ i. P (suc i)) (λ i. dec (suc i)) n p in
+      (suc found.0, omega (arith, found.1), record { holds = found.2.holds; least = above P found.0 none found.2 })
+]
+  where
+    above : (P : ℕ → Type 0) (m : ℕ) → (P 0 → ⊥) → IsLeast (λ i. P (suc i)) m → (i : ℕ) → i < suc m → P i → ⊥
+    above P m none found zero l = none
+    above P m none found (suc i) l = found.least i (omega arith)
 
 module _ {E B : Type 0} (r : RingOps E) (inv : E → Option E) (base : RingOps B) (base_inv : B → Option B) (f : FrobOps E B) (k : IsField r inv) (kb : IsField base base_inv) (l : IsFrobField r base f) where
   abbrev R : RingOn (Element r)
@@ -60,8 +51,13 @@ module _ {E B : Type 0} (r : RingOps E) (inv : E → Option E) (base : RingOps B
   comm : (a b : Element r) → R.mul a b ≡ R.mul b a
   comm a b = same_element r _ _ (k.mul_comm a.0 b.0 a.1 b.1)
 
-  domain : IsDomain R
-  domain = field_domain r inv k
+  -- the top coefficient as a constant isn't zero
+  pub top_embedded : (a : List B) → is_canonical base a ≡ true → a ≢ [] → f.embed (coeff base a (length a - 1)) ≢ r.zero
+  top_embedded a ca some e =
+      let parts = and_parts (are_elems base a) _ ca in
+      let z = kb.ring.closed.zero_in in
+      top_nonzero base z kb.ring.equal a parts.1 some
+      (l.embed_inj _ base.zero (elem_read base a z parts.0 (length a - 1)) z (e ∙ sym (embed_zero r inv base base_inv f k kb l)))
 
   module _ (z : E) (pz : IsElem r z) where
     abbrev point : Element r
@@ -84,57 +80,42 @@ module _ {E B : Type 0} (r : RingOps E) (inv : E → Option E) (base : RingOps B
     root_moved a e j root =
         let s = twist r k.ring f.frob t j in
         let h = twist_endo r k.ring f.frob t j in
-        let at : total R (length a) (λ i. R.mul (coeffs a e i) (power R point i)) ≡ R.zero = same_element r _ _ (value_is a e point ∙ root) in
-        ap (total R (length a))
-        (fun_ext (λ i.
-        ap₂ R.mul (same_element r (coeffs a e i) (s (coeffs a e i)) (sym (l.frob_embed (coeff base a i) j (elem_read base a kb.ring.closed.zero_in e i))))
-        (ap (λ x. power R x i) (same_element r (orbit j) (s point) refl) ∙ sym (power_endo R s h point i))
-        ∙ sym (h.mul (coeffs a e i) (power R point i))))
-        ∙ sym (total_endo R s h (length a) (λ i. R.mul (coeffs a e i) (power R point i))) ∙ ap s at ∙ h.zero
+        let kept : (i : ℕ) → coeffs a e i ≡ s (coeffs a e i) = λ i.
+        same_element r _ _ (sym (l.frob_embed (coeff base a i) j (elem_read base a kb.ring.closed.zero_in e i))) in
+        total_same R (length a) _ _ (λ i m. ap₂ (λ y x. R.mul y (power R x i)) (kept i) (same_element r (orbit j) (s point) refl))
+        ∙ sym (map_value R R s h.zero h.one h.add h.mul (length a) (coeffs a e) point) ∙ ap s (same_element r _ R.zero (value_is a e point ∙ root)) ∙ h.zero
 
+    -- that many steps lead back, and one more
     abbrev Back : ℕ → Type 0
-    Back i = f.frob z i ≡ z
+    Back i = f.frob z (suc i) ≡ z
 
     -- a polynomial that isn't zero and has the root `z` has all points of the orbit as roots
-    root_long : (a : List B) → is_canonical base a ≡ true → a ≢ [] → base_value r base f.embed a z ≡ r.zero → (d : ℕ) → IsLeastPositive Back d → d + 1 ≤ length a
-    root_long a ca some root d period =
-        let parts = and_parts (are_elems base a) _ ca in
-        let e : are_elems base a ≡ true = parts.0 in
-        let pos : 0 < length a = has_members a some in
-        let n = length a - 1 in
-        let long : length a ≡ suc n = omega arith in
-        let top : coeffs a e n ≢ R.zero = λ s.
-        top_nonzero base kb.ring.closed.zero_in kb.ring.equal a parts.1 some
-        (l.embed_inj (coeff base a n) base.zero (elem_read base a kb.ring.closed.zero_in e n) kb.ring.closed.zero_in
-        (ap (λ y. y.0) s ∙ sym (embed_zero r inv base base_inv f k kb l))) in
-        let apart : (i j : ℕ) → i < j → j < d → orbit i ≢ orbit j = λ i j m o same.
-        let gap : j - i + i ≡ j = omega arith in
-        period.least (j - i) (omega arith) (omega arith)
-        (l.frob_inj (f.frob z (j - i)) z i (l.frob_in z (j - i) pz) pz
-        (sym (l.frob_plus z (j - i) i pz) ∙ ap (f.frob z) gap ∙ sym (ap (λ u. u.0) same))) in
+    root_long : (a : List B) → is_canonical base a ≡ true → a ≢ [] → base_value r base f.embed a z ≡ r.zero → (n : ℕ) → IsLeast Back n → n + 2 ≤ length a
+    root_long a ca some root n period =
+        let e : are_elems base a ≡ true = (and_parts _ _ ca).0 in
+        let m = length a - 1 in
+        let long : length a ≡ suc m = omega (arith, has_members a some) in
+        let domain = field_domain r inv k in
+        let apart : (i j : ℕ) → i < j → j < suc n → orbit i ≢ orbit j = λ i j b o same.
+        let gap : suc (j - i - 1) + i ≡ j = omega arith in
+        period.least (j - i - 1) (omega arith)
+        (l.frob_inj _ z i (l.frob_in z _ pz) pz (sym (l.frob_plus z (suc (j - i - 1)) i pz) ∙ ap (f.frob z) gap ∙ sym (ap (λ u. u.0) same))) in
         ⊎_elim
-        (λ (few : n < d).
+        (λ (few : m < suc n).
         absurd
-        (few_roots R comm domain.decided domain.one_ne_zero domain.product n (coeffs a e n)
-        (λ x. total R (suc n) (λ i. R.mul (coeffs a e i) (power R x i))) (is_polynomial R comm n (coeffs a e)) top orbit
-        (λ i j m o. apart i j m (omega arith))
-        (λ j m. subst (λ y. total R y (λ i. R.mul (coeffs a e i) (power R (orbit j) i)) ≡ R.zero) long (root_moved a e j root))))
-        (λ (enough : d ≤ n). omega arith)
-        (cases_lt n d)
+        (few_roots R comm domain.decided domain.one_ne_zero domain.product m (coeffs a e m)
+        (λ x. total R (suc m) (λ i. R.mul (coeffs a e i) (power R x i))) (is_polynomial R comm m (coeffs a e)) (λ s. top_embedded a ca some (ap (λ y. y.0) s)) orbit
+        (λ i j b o. apart i j b (omega arith)) (λ j b. subst (λ y. total R y (λ i. R.mul (coeffs a e i) (power R (orbit j) i)) ≡ R.zero) long (root_moved a e j root))))
+        (λ (enough : suc n ≤ m). omega arith)
+        (cases_lt m (suc n))
 
     -- The polynomial over the base with the points of the orbit as roots.
-    module _ (d : ℕ) (period : IsLeastPositive Back d) where
-      n : ℕ
-      n = d - 1
-
-      unfoldable whole : d ≡ suc (d - 1)
-      whole = let positive : 0 < d = period.positive in omega arith
-
+    module _ (n : ℕ) (period : IsLeast Back n) where
       abbrev s : Element r → Element r
       s = twist r k.ring f.frob t 1
 
       abbrev q : ℕ → Element r
-      q = roots R orbit (suc (d - 1))
+      q = roots R orbit (suc n)
 
       next : (j : ℕ) → s (orbit j) ≡ orbit (suc j)
       next j =
@@ -143,113 +124,90 @@ module _ {E B : Type 0} (r : RingOps E) (inv : E → Option E) (base : RingOps B
 
       still : (i : ℕ) → s (q i) ≡ q i
       still i =
-          let closed : orbit (suc (d - 1)) ≡ orbit 0 = same_element r _ _ (ap (f.frob z) (sym whole) ∙ period.holds ∙ sym (l.frob_zero z pz)) in
-          roots_endo R s (twist_endo r k.ring f.frob t 1) orbit (suc (d - 1)) i
-          ∙ ap (λ c. roots R c (suc (d - 1)) i) (fun_ext next) ∙ roots_cycle R comm orbit (d - 1) i closed
+          roots_endo R s (twist_endo r k.ring f.frob t 1) orbit (suc n) i ∙ ap (λ c. roots R c (suc n) i) (fun_ext next)
+          ∙ roots_cycle R comm orbit n i (same_element r _ _ (period.holds ∙ sym (l.frob_zero z pz)))
 
-      pub low : (i : ℕ) → (b : B) × IsElem base b × ((q i).0 ≡ f.embed b)
+      low : (i : ℕ) → (b : B) × IsElem base b × ((q i).0 ≡ f.embed b)
       low i = l.fixed (q i).0 (q i).1 (ap (λ u. u.0) (still i))
 
-      abbrev pub orbit_list : List B
-      orbit_list = first_values (suc d) (λ i. (low i).0)
+      abbrev orbit_list : List B
+      orbit_list = first_values (suc (suc n)) (λ i. (low i).0)
 
-      pub length-orbit_list : length orbit_list ≡ suc d
-      length-orbit_list = length-first_values (suc d) (λ i. (low i).0)
+      length-orbit_list : length orbit_list ≡ suc (suc n)
+      length-orbit_list = length-first_values (suc (suc n)) (λ i. (low i).0)
 
       elems : are_elems base orbit_list ≡ true
-      elems = elems-first_values base (suc d) (λ i. (low i).0) (λ i m. (low i).1)
+      elems = elems-first_values base (suc (suc n)) (λ i. (low i).0) (λ i m. (low i).1)
 
-      top_one : (low d).0 ≡ base.one
-      top_one =
-          l.embed_inj (low d).0 base.one (low d).1 kb.ring.closed.one_in
-          (sym (low d).2 ∙ ap (λ i. (q i).0) whole ∙ ap (λ u. u.0) (roots_top R orbit (suc (d - 1))) ∙ sym (embed_one r inv base base_inv f k kb l))
-
-      canonical : is_canonical base orbit_list ≡ true
-      canonical =
-          let high : base.same (low d).0 base.zero ≡ false =
-          false_from_ne_true _ (λ e. kb.one_ne_zero (sym top_one ∙ kb.ring.equal.same_eq (low d).0 base.zero (low d).1 kb.ring.closed.zero_in e)) in
-          and_from _ _ elems
-          (ap (is_trimmed base) (sym (values_pushed d (λ i. (low i).0))) ∙ trimmed_push base (first_values d (λ i. (low i).0)) (low d).0 high)
+      coeff-orbit_list : (i : ℕ) → i < suc (suc n) → coeff base orbit_list i ≡ (low i).0
+      coeff-orbit_list i m = at-first_values (suc (suc n)) (λ j. (low j).0) i base.zero m
 
       monic : coeff base orbit_list (length orbit_list - 1) ≡ base.one
       monic =
-          let place : length orbit_list - 1 ≡ d = omega (arith, length-orbit_list) in
-          ap (coeff base orbit_list) place ∙ at-first_values (suc d) (λ i. (low i).0) d base.zero (omega arith) ∙ top_one
-
-      terms : (i : ℕ) → i < suc (suc (d - 1)) → coeffs orbit_list elems i ≡ q i
-      terms i m =
-          let within : i < suc d = omega (arith, whole) in
-          same_element r _ _ (ap f.embed (at-first_values (suc d) (λ j. (low j).0) i base.zero within) ∙ sym (low i).2)
+          let place : length orbit_list - 1 ≡ suc n = omega (arith, length-orbit_list) in
+          ap (coeff base orbit_list) place ∙ coeff-orbit_list (suc n) (omega arith)
+          ∙ l.embed_inj _ base.one (low (suc n)).1 kb.ring.closed.one_in
+          (sym (low (suc n)).2 ∙ ap (λ u. u.0) (roots_top R orbit (suc n)) ∙ sym (embed_one r inv base base_inv f k kb l))
 
       root : base_value r base f.embed orbit_list z ≡ r.zero
       root =
-          let count : length orbit_list ≡ suc (suc (d - 1)) = omega (arith, whole, length-orbit_list) in
-          let first : orbit 0 ≡ point = same_element r _ _ (l.frob_zero z pz) in
-          let sum_zero : total R (suc (suc (d - 1))) (λ i. R.mul (coeffs orbit_list elems i) (power R (orbit 0) i)) ≡ R.zero =
-          total_same R (suc (suc (d - 1))) _ _ (λ i m. ap (λ y. R.mul y (power R (orbit 0) i)) (terms i m)) ∙ roots_value R comm orbit (d - 1) in
+          let first : point ≡ orbit 0 = same_element r _ _ (sym (l.frob_zero z pz)) in
           sym (value_is orbit_list elems point)
           ∙ ap (λ u. u.0)
-          (ap (λ m. total R m (λ i. R.mul (coeffs orbit_list elems i) (power R point i))) count
-          ∙ ap (λ x. total R (suc (suc (d - 1))) (λ i. R.mul (coeffs orbit_list elems i) (power R x i))) (sym first) ∙ sum_zero)
+          (ap (λ m. total R m (λ i. R.mul (coeffs orbit_list elems i) (power R point i))) length-orbit_list
+          ∙ total_same R (suc (suc n)) _ _ (λ i m.
+          ap₂ (λ y x. R.mul y (power R x i)) (same_element r _ (q i) (ap f.embed (coeff-orbit_list i m) ∙ sym (low i).2)) first)
+          ∙ roots_value R comm orbit n)
 
-      nonempty : orbit_list ≢ []
-      nonempty e = let none : suc d ≡ 0 = sym length-orbit_list ∙ ap length e in absurd (omega arith)
-
-      pub orbit_is_least : IsMinPoly r base f.embed z orbit_list
+      orbit_is_least : IsMinPoly r base f.embed z orbit_list
       orbit_is_least = record {
-        canonical = canonical;
+        canonical =
+            and_from _ _ elems
+            (trimmed_by_top base orbit_list (omega (arith, length-orbit_list))
+            (ap (λ x. base.same x base.zero) monic
+            ∙ false_from_ne_true _ (λ e. kb.one_ne_zero (kb.ring.equal.same_eq base.one base.zero kb.ring.closed.one_in kb.ring.closed.zero_in e))));
         monic = monic;
         root = root;
-        least = λ b cb nb rb. let enough = root_long b cb nb rb d period in omega (arith, enough, length-orbit_list);
+        least = λ b cb nb rb. omega (arith, root_long b cb nb rb n period, length-orbit_list);
       }
 
-    -- the degree of a polynomial of least degree is the period
-    degree_is : (a : List B) → IsMinPoly r base f.embed z a → (d : ℕ) → IsLeastPositive Back d → length a ≡ d + 1
-    degree_is a p d period =
-        let own = orbit_is_least d period in
-        let some : a ≢ [] = λ e. kb.one_ne_zero (sym p.monic ∙ ap (λ u. coeff base u (length u - 1)) e) in
-        let large = root_long a p.canonical some p.root d period in
-        let small : length a ≤ length (orbit_list d period) = p.least (orbit_list d period) own.canonical (nonempty d period) own.root in
-        omega (arith, large, small, length-orbit_list d period)
+      -- a polynomial of least degree has the period as its degree
+      degree_is : (a : List B) → IsMinPoly r base f.embed z a → length a ≡ suc (suc n)
+      degree_is a p =
+          let some : a ≢ [] = λ e. kb.one_ne_zero (sym p.monic ∙ ap (λ u. coeff base u (length u - 1)) e) in
+          let large = root_long a p.canonical some p.root n period in
+          let small = p.least orbit_list orbit_is_least.canonical (not_empty orbit_list (omega (arith, length-orbit_list))) root in
+          omega (arith, large, small, length-orbit_list)
 
-    round : (d : ℕ) → Back d → (i : ℕ) → Back (d * i)
-    round d e zero = let none : d * 0 ≡ 0 = omega arith in ap (f.frob z) none ∙ l.frob_zero z pz
-    round d e (suc i) =
-        let more : d * suc i ≡ d * i + d = omega arith in
-        ap (f.frob z) more ∙ l.frob_plus z (d * i) d pz ∙ ap (λ x. f.frob x d) (round d e i) ∙ e
+      round : (i : ℕ) → f.frob z (suc n * i) ≡ z
+      round zero = let none : suc n * 0 ≡ 0 = omega arith in ap (f.frob z) none ∙ l.frob_zero z pz
+      round (suc i) =
+          let more : suc n * suc i ≡ suc n * i + suc n = omega arith in
+          ap (f.frob z) more ∙ l.frob_plus z (suc n * i) (suc n) pz ∙ ap (λ x. f.frob x (suc n)) (round i) ∙ period.holds
 
-    period_of : (d : ℕ) × IsLeastPositive Back d
+      -- no fewer steps lead back
+      no_fewer : (i : ℕ) → i < suc n → f.frob z i ≡ z → i ≡ 0
+      no_fewer zero b back = refl
+      no_fewer (suc i) b back = absurd (period.least i (omega arith) back)
+
+    period_of : (n : ℕ) × (n ≤ f.degree - 1) × IsLeast Back n
     period_of =
-        ⊎_elim
-        (λ found. found)
-        (λ (none : (i : ℕ) → 0 < i → i ≤ f.degree → Back i → ⊥). let some = l.degree_pos in absurd (none f.degree (omega arith) (omega arith) (l.frob_degree z pz)))
-        (least_up_to Back
-        (λ i.
-        ⊎_elim
-        (λ (s : r.same (f.frob z i) z ≡ true). inl (k.ring.equal.same_eq _ z (l.frob_in z i pz) pz s))
-        (λ (s : r.same (f.frob z i) z ≡ false).
-        inr (λ e. both_ways (r.same (f.frob z i) z) s (ap (λ u. r.same u z) e ∙ k.ring.equal.same_refl z pz)))
-        (cases_Bool (r.same (f.frob z i) z)))
-        f.degree)
+        let whole : suc (f.degree - 1) ≡ f.degree = omega (arith, l.degree_pos) in
+        least_of Back (λ i. equal_or_not r k.ring.equal _ z (l.frob_in z (suc i) pz) pz) (f.degree - 1) (ap (f.frob z) whole ∙ l.frob_degree z pz)
 
     -- An element has a polynomial of least degree over the base.
     pub least_exists : (a : List B) × IsMinPoly r base f.embed z a
-    least_exists = (orbit_list period_of.0 period_of.1, orbit_is_least period_of.0 period_of.1)
+    least_exists = (orbit_list period_of.0 period_of.2, orbit_is_least period_of.0 period_of.2)
 
     -- the degree divides each number of steps that lead back
     pub degree_divides : (a : List B) → IsMinPoly r base f.embed z a → (i : ℕ) → f.frob z i ≡ z → i ≡ i / (length a - 1) * (length a - 1)
     degree_divides a p i back =
-        let d = period_of.0 in
-        let period = period_of.1 in
-        let long : length a ≡ d + 1 = degree_is a p d period in
-        let same : length a - 1 ≡ d = omega (arith, long) in
-        let positive : 0 < d = period.positive in
-        let rest = i % d in
-        let less : rest < d = mod-lt i positive in
-        let split : d * (i / d) + rest ≡ i = div-add-mod i d in
-        let left : f.frob z rest ≡ z =
-        ap (λ x. f.frob x rest) (sym (round d period.holds (i / d))) ∙ sym (l.frob_plus z (d * (i / d)) rest pz) ∙ ap (f.frob z) split ∙ back in
-        let none : rest ≡ 0 =
-        ⊎_elim (λ (zero_rest : rest < 1). omega arith) (λ (some : 1 ≤ rest). absurd (period.least rest some less left)) (cases_lt rest 1) in
-        let whole : i ≡ i / d * d = omega arith in
-        whole ∙ ap (λ m. i / m * m) (sym same)
+        let n = period_of.0 in
+        let period = period_of.2 in
+        let d : length a - 1 ≡ suc n = omega (arith, degree_is n period a p) in
+        let less : i % suc n < suc n = mod-lt i (omega arith) in
+        let split : suc n * (i / suc n) + i % suc n ≡ i = div-add-mod i (suc n) in
+        let none : i % suc n ≡ 0 =
+        no_fewer n period (i % suc n) less
+        (ap (λ x. f.frob x (i % suc n)) (sym (round n period (i / suc n))) ∙ sym (l.frob_plus z (suc n * (i / suc n)) (i % suc n) pz) ∙ ap (f.frob z) split ∙ back) in
+        rw d (omega arith)

@@ -1,25 +1,16 @@
-use Rattle.std.proofs.Common.{sym, ◌∙◌, eq-eqb, subst}
+use Rattle.std.proofs.Common.{sym, ◌∙◌, eq-eqb}
 use Rattle.std.proofs.lemmas.Bool.{eqb-true}
-use Rattle.drinfeld_mod.specs.Module.{rank_of}
-use Rattle.drinfeld_mod.specs.Height.{IsHeight}
 use Rattle.drinfeld_mod.proofs.Lowest.{one_height}
 use Rattle.drinfeld_mod.proofs.at_characteristic.is_supersingular.Goals as goal
 
 pub returns : goal.returns
 returns g c =
     let k = c.args.field.now in
-    let r = g.K.Field.ops k in
-    let inv = g.K.Field.inv_of k in
-    let b = g.K.FrobField.base_of k in
-    let base = g.K.Base.Field.ops b in
-    let base_inv = g.K.Base.Field.inv_of b in
-    let f = g.K.FrobField.frob_ops k in
-    let field = g.met.K.Field.laws k in
-    let base_field = g.met.K.Base.Field.laws b in
-    let laws = g.met.K.FrobField.frob_laws k in
-    let phi = c.args.phi.now in
     let h = c.in_ok-h.h in
     let is = c.in_ok-h.ensures.0 in (
-      λ yes. subst (IsHeight r base f phi) (eqb-true h c.rank.result yes ∙ c.rank.ensures) is,
-      λ top. eq-eqb h c.rank.result (one_height r inv base base_inv f field base_field laws phi c.requires h (rank_of phi) is top ∙ sym c.rank.ensures),
+      λ yes. rw (eqb-true h c.rank.result yes ∙ c.rank.ensures) at is,
+      λ top.
+          eq-eqb h c.rank.result
+          (one_height _ _ _ _ _ (g.met.K.Field.laws k) (g.met.K.Base.Field.laws (g.K.FrobField.base_of k)) (g.met.K.FrobField.frob_laws k) _ c.requires h _ is top
+          ∙ sym c.rank.ensures),
     )

@@ -2,14 +2,5 @@ use Rattle.drinfeld_mod.proofs.Lowest.{exists}
 use Rattle.drinfeld_mod.proofs.laws.height_exists.Goals as goal
 
 pub returns : goal.returns
-returns g c = λ k phi m.
-    let r = g.K.Field.ops k in
-    let inv = g.K.Field.inv_of k in
-    let b = g.K.FrobField.base_of k in
-    let base = g.K.Base.Field.ops b in
-    let base_inv = g.K.Base.Field.inv_of b in
-    let f = g.K.FrobField.frob_ops k in
-    let field = g.met.K.Field.laws k in
-    let base_field = g.met.K.Base.Field.laws b in
-    let laws = g.met.K.FrobField.frob_laws k in
-    exists r inv base base_inv f field base_field laws phi m
+returns g c = λ k.
+    exists _ _ _ _ _ (g.met.K.Field.laws k) (g.met.K.Base.Field.laws (g.K.FrobField.base_of k)) (g.met.K.FrobField.frob_laws k)

@@ -4,26 +4,10 @@ use Rattle.drinfeld_mod.proofs.laws.images_act.Goals as goal
 
 pub returns-clause-sum : goal.returns-clause-sum
 returns-clause-sum g c = λ k phi a d m ca cd.
-    let r = g.K.Field.ops k in
-    let inv = g.K.Field.inv_of k in
-    let b = g.K.FrobField.base_of k in
-    let base = g.K.Base.Field.ops b in
-    let base_inv = g.K.Base.Field.inv_of b in
-    let f = g.K.FrobField.frob_ops k in
-    let field = g.met.K.Field.laws k in
-    let base_field = g.met.K.Base.Field.laws b in
-    let laws = g.met.K.FrobField.frob_laws k in
-    image_add r inv base base_inv f field base_field laws phi m.canonical a d (and_parts _ _ ca).0 (and_parts _ _ cd).0
+    image_add _ _ _ _ _ (g.met.K.Field.laws k) (g.met.K.Base.Field.laws (g.K.FrobField.base_of k)) (g.met.K.FrobField.frob_laws k)
+    phi m.canonical a d (and_parts _ _ ca).0 (and_parts _ _ cd).0
 
 pub returns-clause-product : goal.returns-clause-product
 returns-clause-product g c = λ k phi a d m ca cd.
-    let r = g.K.Field.ops k in
-    let inv = g.K.Field.inv_of k in
-    let b = g.K.FrobField.base_of k in
-    let base = g.K.Base.Field.ops b in
-    let base_inv = g.K.Base.Field.inv_of b in
-    let f = g.K.FrobField.frob_ops k in
-    let field = g.met.K.Field.laws k in
-    let base_field = g.met.K.Base.Field.laws b in
-    let laws = g.met.K.FrobField.frob_laws k in
-    image_mul r inv base base_inv f field base_field laws phi m.canonical a d (and_parts _ _ ca).0 (and_parts _ _ cd).0
+    image_mul _ _ _ _ _ (g.met.K.Field.laws k) (g.met.K.Base.Field.laws (g.K.FrobField.base_of k)) (g.met.K.FrobField.frob_laws k)
+    phi m.canonical a d (and_parts _ _ ca).0 (and_parts _ _ cd).0
