@@ -1,15 +1,15 @@
 -- The other factor of `u phi_T`, where `u` divides it on the right.
-use Rattle.std.proofs.Common.{◌≡◌, ◌≢◌, ℕ, ◌+◌, ◌-◌, ◌<◌, ◌≤◌, true, Option, List, [], length, sym, ◌∙◌, ap, subst, ⊎_elim, arith}
+use Rattle.std.proofs.Common.{◌≡◌, ◌≢◌, ℕ, ◌+◌, ◌<◌, ◌≤◌, true, Option, List, [], length, sym, ◌∙◌, ap, ⊎_elim, arith}
 use Rattle.std.proofs.lemmas.Bool.{cases_lt}
 use Rattle.ring_core.specs.Ring.{RingOps}
 use Rattle.ring_core.specs.Field.{IsField, FrobOps, IsFrobField}
 use Rattle.ring_core.specs.Coeffs.{is_canonical}
 use Rattle.ring_core.specs.Twisted.{twisted_ops, list_add, list_mul}
 use Rattle.ring_core.proofs.Carrier.{RingOn, same_element, add_zero, zero_mul}
-use Rattle.ring_core.proofs.Degrees.{has_members}
+use Rattle.ring_core.proofs.Degrees.{has_members, not_empty}
 use Rattle.euclid_theory.proofs.Sizes.{HasSizes, quotients_same, cancel_right}
 use Rattle.euclid_theory.proofs.OreSizes.{Ores, ores, size, ore_sizes}
-use Rattle.drinfeld_mod.specs.Module.{IsModule, rank_of, constant_of}
+use Rattle.drinfeld_mod.specs.Module.{IsModule, constant_of}
 use Rattle.kernel_quotient.specs.Quotient.{IsOtherFactor, IsQuotient}
 
 module _ {M : Type 0} (R : RingOn M) (len : M → ℕ) (h : HasSizes R len) (u p : M) (nonzero : 0 < len u) (module_p : 0 < len p) where
@@ -30,8 +30,7 @@ module _ {M : Type 0} (R : RingOn M) (len : M → ℕ) (h : HasSizes R len) (u p
   -- where some s serves, the division leaves no rest and gives s
   factor_only : (s c rest : M) → R.mul u p ≡ R.mul s u → R.mul u p ≡ R.add (R.mul c u) rest → len rest < len u → (c ≡ s) × (rest ≡ R.zero)
   factor_only s c rest hom division lower =
-      let none : len R.zero < len u = let z : len R.zero ≡ 0 = h.none in omega arith in
-      quotients_same R len h u c s rest R.zero (sym division ∙ hom ∙ sym (add_zero R (R.mul s u))) lower none
+      quotients_same R len h u c s rest R.zero (sym division ∙ hom ∙ sym (add_zero R (R.mul s u))) lower (omega (arith, h.none))
 
 module _ {E B : Type 0} (r : RingOps E) (inv : E → Option E) (base : RingOps B) (f : FrobOps E B) (k : IsField r inv) (l : IsFrobField r base f) (phi : List E) (m : IsModule r phi) where
   abbrev S : RingOn (Ores r inv base f k l)
@@ -44,7 +43,7 @@ module _ {E B : Type 0} (r : RingOps E) (inv : E → Option E) (base : RingOps B
   P = (phi, m.canonical)
 
   long : 0 < length phi
-  long = let rank = m.rank_pos in omega (arith, rank)
+  long = omega (arith, m.rank_pos)
 
   -- without a rest and with the constant of the module, the other factor is the quotient
   pub quotient_found : (u c rest : List E) → is_canonical r u ≡ true → 0 < length u → IsOtherFactor r f.frob phi u c rest → rest ≡ [] → constant_of r c ≡ constant_of r phi → IsQuotient r f.frob phi u c
@@ -54,14 +53,9 @@ module _ {E B : Type 0} (r : RingOps E) (inv : E → Option E) (base : RingOps B
       let equation : S.mul U P ≡ S.mul C U =
       same_element ops (S.mul U P) (S.mul C U) (d.sum ∙ ap (list_add r (list_mul r f.frob c u)) none ∙ ap (λ x. x.0) (add_zero S (S.mul C U))) in
       let degree : length c ≡ length phi = factor_degree S (size r inv base f k l) (ore_sizes r inv base f k l) U P some long C equation in
-      let rank : rank_of c ≡ rank_of phi = ap (λ n. n - 1) degree in
       record {
-        nonzero = λ e. let empty : length u ≡ 0 = ap length e in absurd (omega (arith, empty, some));
-        target = record {
-          canonical = d.quotient;
-          rank_pos = subst (λ n. 1 ≤ n) (sym rank) m.rank_pos;
-          rank_small = subst (λ n. n ≤ 8) (sym rank) m.rank_small;
-        };
+        nonzero = not_empty u some;
+        target = record { canonical = d.quotient; rank_pos = rw degree m.rank_pos; rank_small = rw degree m.rank_small };
         constant = constant;
         hom = record { canonical = cu; commutes = ap (λ x. x.0) equation };
       }
