@@ -1,5 +1,5 @@
 -- Euclid's chain over lists.
-use Rattle.std.proofs.Common.{◌≡◌, ℕ, ◌+◌, ◌<◌, ◌≤◌, true, Option, List, [], ◌∷◌, length, sym, ◌∙◌, ap, subst, arith}
+use Rattle.std.proofs.Common.{◌≡◌, ℕ, ◌+◌, ◌<◌, ◌≤◌, true, Option, List, [], ◌∷◌, length, sym, ◌∙◌, ap, arith}
 use Rattle.std.proofs.lemmas.Bool.{and_parts}
 use Rattle.std.proofs.lemmas.List.{nil_from_length}
 use Rattle.ring_core.specs.Ring.{RingOps}
@@ -30,9 +30,7 @@ module _ {E B : Type 0} (r : RingOps E) (inv : E → Option E) (base : RingOps B
       → final ≡ trim r rest → next ≡ trim r left → past ≡ trim r right → IsNextLink r f.frob u v su sv wu wv final next past
   link_done u v su sv wu wv grown_left grown_right rest left right final next past cu cv csu cwu er el et pos cleared same_left same_right reduced is_rest is_next is_past =
       let q : Ores r inv base f k l = (reduced.factor, reduced.factor_in) in
-      subst (λ x. IsNextLink r f.frob u v su sv wu wv x next past) (sym is_rest)
-      (subst (λ x. IsNextLink r f.frob u v su sv wu wv (trim r rest) x past) (sym is_next)
-      (subst (λ x. IsNextLink r f.frob u v su sv wu wv (trim r rest) (trim r left) x) (sym is_past)
+      rw (is_rest, is_next, is_past)
       (record {
         quotient = reduced.factor;
         quotient_in = reduced.factor_in;
@@ -45,7 +43,7 @@ module _ {E B : Type 0} (r : RingOps E) (inv : E → Option E) (base : RingOps B
         second = sym (trim-trimmed r su (and_parts _ _ csu).1) ∙ sym same_left ∙ reduced.second;
         third = sym (trim-trimmed r wu (and_parts _ _ cwu).1) ∙ sym same_right ∙ reduced.third;
         lower = rest_short r inv base f k l v rest er pos cleared;
-      })))
+      })
 
   -- The state of the loop.
   pub record Links (a b u v su sv wu wv : List E) (ca : is_canonical r a ≡ true) (cb : is_canonical r b ≡ true) : Type 0 where
@@ -57,28 +55,19 @@ module _ {E B : Type 0} (r : RingOps E) (inv : E → Option E) (base : RingOps B
     pub next_right : is_canonical r wv ≡ true
     pub chain : Chain (ores r inv base f k l) (size r inv base f k l) (a, ca) (b, cb) (u, first) (v, second) (su, left) (sv, next_left) (wu, right) (wv, next_right)
 
-  links_first : (a b q rest : List E) (ca : is_canonical r a ≡ true) (cb : is_canonical r b ≡ true) → IsRightDivision r f.frob a b q rest
-      → Links a b b rest [] (r.one ∷ []) (r.one ∷ []) (list_neg r q) ca cb
-  links_first a b q rest ca cb d =
-      let ops = twisted_ops r f.frob in
-      record {
+  pub links_start : (a b q rest u su sv wu wv : List E) (ca : is_canonical r a ≡ true) (cb : is_canonical r b ≡ true) → IsRightDivision r f.frob a b q rest
+      → u ≡ b → su ≡ [] → sv ≡ r.one ∷ [] → wu ≡ r.one ∷ [] → wv ≡ list_neg r q → Links a b u rest su sv wu wv ca cb
+  links_start a b q rest u su sv wu wv ca cb d is_u is_su is_sv is_wu is_wv =
+      rw (is_u, is_su, is_sv, is_wu, is_wv)
+      (record {
         first = cb;
         second = d.remainder;
         left = R.zero.1;
         next_left = R.one.1;
         right = R.one.1;
         next_right = (R.neg (q, d.quotient)).1;
-        chain = chain_start R (size r inv base f k l) (ore_sizes r inv base f k l) (a, ca) (b, cb) (q, d.quotient) (rest, d.remainder) (same_element ops _ _ d.sum) d.lower;
-      }
-
-  pub links_start : (a b q rest u su sv wu wv : List E) (ca : is_canonical r a ≡ true) (cb : is_canonical r b ≡ true) → IsRightDivision r f.frob a b q rest
-      → u ≡ b → su ≡ [] → sv ≡ r.one ∷ [] → wu ≡ r.one ∷ [] → wv ≡ list_neg r q → Links a b u rest su sv wu wv ca cb
-  links_start a b q rest u su sv wu wv ca cb d is_u is_su is_sv is_wu is_wv =
-      subst (λ x. Links a b x rest su sv wu wv ca cb) (sym is_u)
-      (subst (λ x. Links a b b rest x sv wu wv ca cb) (sym is_su)
-      (subst (λ x. Links a b b rest [] x wu wv ca cb) (sym is_sv)
-      (subst (λ x. Links a b b rest [] (r.one ∷ []) x wv ca cb) (sym is_wu)
-      (subst (λ x. Links a b b rest [] (r.one ∷ []) (r.one ∷ []) x ca cb) (sym is_wv) (links_first a b q rest ca cb d)))))
+        chain = chain_start R (size r inv base f k l) (ore_sizes r inv base f k l) (a, ca) (b, cb) (q, d.quotient) (rest, d.remainder) (same_element (twisted_ops r f.frob) _ _ d.sum) d.lower;
+      })
 
   pub links_step : (a b u v su sv wu wv rest next past : List E) (ca : is_canonical r a ≡ true) (cb : is_canonical r b ≡ true) → Links a b u v su sv wu wv ca cb → 0 < length v
       → IsNextLink r f.frob u v su sv wu wv rest next past → Links a b v rest sv next wv past ca cb
@@ -99,7 +88,6 @@ module _ {E B : Type 0} (r : RingOps E) (inv : E → Option E) (base : RingOps B
 
   pub links_end : (a b u v su sv wu wv : List E) (ca : is_canonical r a ≡ true) (cb : is_canonical r b ≡ true) → Links a b u v su sv wu wv ca cb → v ≡ [] → IsLastLink r f.frob a b u su wu sv wv
   links_end a b u v su sv wu wv ca cb s none =
-      let ops = twisted_ops r f.frob in
       let last = last_of R (size r inv base f k l) (ore_sizes r inv base f k l) (a, ca) (b, cb) (u, s.first) (v, s.second) (su, s.left) (sv, s.next_left) (wu, s.right) (wv, s.next_right) s.chain (ap length none) in
       record {
         divisor_in = s.first;
@@ -113,7 +101,7 @@ module _ {E B : Type 0} (r : RingOps E) (inv : E → Option E) (base : RingOps B
         sum = ap (λ x. x.0) last.sum;
         relation = ap (λ x. x.0) last.relation;
         all = λ n p d.
-            let e = last.all (n, p) (d.factor, d.factor_in) (same_element ops _ _ d.is) in
+            let e = last.all (n, p) (d.factor, d.factor_in) (same_element (twisted_ops r f.frob) _ _ d.is) in
             record { factor = e.0.0; factor_in = e.0.1; is = ap (λ x. x.0) e.1 };
         sizes = last.sizes;
         small = last.small;
@@ -163,17 +151,16 @@ module _ {E B : Type 0} (r : RingOps E) (inv : E → Option E) (base : RingOps B
   pub last_from : (a b d s w t v : List E) (ca : is_canonical r a ≡ true) (cb : is_canonical r b ≡ true) (e : IsLastLink r f.frob a b d s w t v)
       → Last R (size r inv base f k l) (a, ca) (b, cb) (d, e.divisor_in) (s, e.left_in) (t, e.left_factor_in) (w, e.right_in) (v, e.right_factor_in)
   last_from a b d s w t v ca cb e =
-      let ops = twisted_ops r f.frob in
       record {
         x = (e.left.factor, e.left.factor_in);
-        left = same_element ops _ _ e.left.is;
+        left = same_element (twisted_ops r f.frob) _ _ e.left.is;
         y = (e.right.factor, e.right.factor_in);
-        right = same_element ops _ _ e.right.is;
-        sum = same_element ops _ _ e.sum;
-        relation = same_element ops _ _ e.relation;
+        right = same_element (twisted_ops r f.frob) _ _ e.right.is;
+        sum = same_element (twisted_ops r f.frob) _ _ e.sum;
+        relation = same_element (twisted_ops r f.frob) _ _ e.relation;
         all = λ n o is.
             let d = e.all n.0 n.1 (record { factor = o.0; factor_in = o.1; is = ap (λ x. x.0) is }) in
-            ((d.factor, d.factor_in), same_element ops _ _ d.is);
+            ((d.factor, d.factor_in), same_element (twisted_ops r f.frob) _ _ d.is);
         nonzero = e.nonzero;
         sizes = e.sizes;
         small = e.small;

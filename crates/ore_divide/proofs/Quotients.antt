@@ -1,5 +1,5 @@
 -- Quotient and remainder, once the places of the dividend are cleared.
-use Rattle.std.proofs.Common.{◌≡◌, ℕ, ◌+◌, ◌<◌, ◌≤◌, true, Option, List, length, sym, ◌∙◌, ap, subst}
+use Rattle.std.proofs.Common.{◌≡◌, ℕ, ◌+◌, ◌<◌, ◌≤◌, true, Option, List, length, sym, ◌∙◌, ap}
 use Rattle.std.proofs.lemmas.Bool.{and_parts}
 use Rattle.ring_core.specs.Ring.{RingOps}
 use Rattle.ring_core.specs.Field.{IsField, FrobOps, IsFrobField}
@@ -46,6 +46,4 @@ module _ {E B : Type 0} (r : RingOps E) (inv : E → Option E) (base : RingOps B
     }
 
     pub division_done : (s : Side) → trim r a ≡ list_add r (trim r rest) (multiple_on s r f.frob (trim r quotient) b) → IsDivision s r f.frob a b c left
-    division_done s divided =
-        subst (λ u. IsDivision s r f.frob a b u left) (sym is_quotient)
-        (subst (IsDivision s r f.frob a b (trim r quotient)) (sym is_rest) (divided_on s divided))
+    division_done s divided = rw (is_quotient, is_rest) (divided_on s divided)

@@ -1,7 +1,6 @@
 -- Each answer is the only one, over lists.
-use Rattle.std.proofs.Common.{◌≡◌, ℕ, ◌+◌, ◌-◌, ◌<◌, ◌≤◌, true, Option, List, [], ◌∷◌, length, sym, ◌∙◌, ap, ap₂, ⊎_elim, arith}
+use Rattle.std.proofs.Common.{◌≡◌, ℕ, ◌+◌, ◌-◌, ◌<◌, ◌≤◌, ◌⊎◌, inl, inr, true, Option, List, [], ◌∷◌, length, refl, sym, ◌∙◌, ap, ap₂, ⊎_elim, arith}
 use Rattle.std.proofs.lemmas.Bool.{and_parts, cases_lt, cases_eq}
-use Rattle.std.proofs.lemmas.List.{nil_from_length}
 use Rattle.ring_core.specs.Ring.{RingOps}
 use Rattle.ring_core.specs.Field.{IsField, FrobOps, IsFrobField}
 use Rattle.ring_core.specs.Coeffs.{coeff, are_elems, is_canonical}
@@ -12,10 +11,15 @@ use Rattle.ring_core.proofs.ListRing.{coeff-add, coeff-neg}
 use Rattle.ore_divide.specs.Division.{IsRightDivision}
 use Rattle.ore_divide.specs.Divisor.{DividesRight, IsMonic, IsCommonRight}
 use Rattle.ore_divide.specs.Multiple.{IsLeastMultiple}
-use Rattle.euclid_theory.proofs.Sizes.{minus, quotients_same, cancel_right}
+use Rattle.euclid_theory.proofs.Sizes.{minus, no_multiple, quotients_same, cancel_right}
 use Rattle.euclid_theory.proofs.Divisors.{Common, Multiple, divides_sum, divisor_same, cofactors_same, multiple_same, multiple_divides}
 use Rattle.ring_core.proofs.Degrees.{not_empty, length_below}
 use Rattle.euclid_theory.proofs.OreSizes.{Ores, ores, size, ore_sizes}
+
+-- A list is empty or has members.
+pub empty_or_not : {E : Type 0} (u : List E) → (u ≡ []) ⊎ (0 < length u)
+empty_or_not [] = inl refl
+empty_or_not (x ∷ xs) = inr (omega arith)
 
 module _ {E B : Type 0} (r : RingOps E) (inv : E → Option E) (base : RingOps B) (f : FrobOps E B) (k : IsField r inv) (l : IsFrobField r base f) where
   abbrev R : RingOn (Ores r inv base f k l)
@@ -26,6 +30,21 @@ module _ {E B : Type 0} (r : RingOps E) (inv : E → Option E) (base : RingOps B
 
   abbrev pub Monic : Ores r inv base f k l → Type 0
   Monic x = IsMonic r x.0
+
+  -- equal lists are equal twisted polynomials
+  pub same : (x y : Ores r inv base f k l) → x.0 ≡ y.0 → x ≡ y
+  same = same_element (twisted_ops r f.frob)
+
+  -- zero is a multiple of every twisted polynomial
+  pub zero_divided : (m n : List E) → is_canonical r m ≡ true → n ≡ [] → DividesRight r f.frob m n
+  zero_divided m n cm none = record { factor = []; factor_in = R.zero.1; is = none ∙ sym (ap (λ x. x.0) (zero_mul R (m, cm))) }
+
+  -- a multiple of zero adds nothing, on either side
+  pub right_empty : (x y a b : Ores r inv base f k l) → b.0 ≡ [] → R.add (R.mul x a) (R.mul y b) ≡ R.mul x a
+  right_empty x y a b none = ap (R.add (R.mul x a)) (ap (R.mul y) (same b R.zero none) ∙ mul_zero R y) ∙ add_zero R (R.mul x a)
+
+  pub left_empty : (x y a b : Ores r inv base f k l) → a.0 ≡ [] → R.add (R.mul x a) (R.mul y b) ≡ R.mul y b
+  left_empty x y a b none = R.add_comm (R.mul x a) (R.mul y b) ∙ right_empty y x b a none
 
   -- the tops of two monic polynomials of one degree cancel
   pub tops : (x y : Ores r inv base f k l) → Monic x → Monic y → len x ≡ len y → 0 < len x → len (minus R x y) < len x
@@ -50,99 +69,72 @@ module _ {E B : Type 0} (r : RingOps E) (inv : E → Option E) (base : RingOps B
 
   pub right_division : (a b c d rest other : List E) → is_canonical r b ≡ true → IsRightDivision r f.frob a b c rest → IsRightDivision r f.frob a b d other → (c ≡ d) × (rest ≡ other)
   right_division a b c d rest other cb p q =
-      let ops = twisted_ops r f.frob in
-      let same = quotients_same R len (ore_sizes r inv base f k l) (b, cb) (c, p.quotient) (d, q.quotient) (rest, p.remainder) (other, q.remainder)
-      (same_element ops _ _ (sym p.sum ∙ q.sum)) p.lower q.lower in
-      (ap (λ x. x.0) same.0, ap (λ x. x.0) same.1)
+      let both = quotients_same R len (ore_sizes r inv base f k l) (b, cb) (c, p.quotient) (d, q.quotient) (rest, p.remainder) (other, q.remainder)
+      (same _ _ (sym p.sum ∙ q.sum)) p.lower q.lower in
+      (ap (λ x. x.0) both.0, ap (λ x. x.0) both.1)
 
   common_of : (a b d s w : List E) (ca : is_canonical r a ≡ true) (cb : is_canonical r b ≡ true) (p : IsCommonRight r f.frob a b d s w)
       → Common R len Monic (a, ca) (b, cb) (d, p.divisor) (s, p.left_in) (w, p.right_in)
-  common_of a b d s w ca cb p =
-      let ops = twisted_ops r f.frob in
-      record {
-        sum = same_element ops _ _ p.sum;
-        x = (p.left.factor, p.left.factor_in);
-        left = same_element ops _ _ p.left.is;
-        y = (p.right.factor, p.right.factor_in);
-        right = same_element ops _ _ p.right.is;
-        monic = λ pos. p.monic (not_empty d pos);
-      }
+  common_of a b d s w ca cb p = record {
+    sum = same _ _ p.sum;
+    x = (p.left.factor, p.left.factor_in);
+    left = same _ _ p.left.is;
+    y = (p.right.factor, p.right.factor_in);
+    right = same _ _ p.right.is;
+    monic = λ pos. p.monic (not_empty d pos);
+  }
 
   -- a divisor of a polynomial that isn't zero is no longer
-  divisor_short : (b d : List E) → is_canonical r b ≡ true → is_canonical r d ≡ true → DividesRight r f.frob d b → 0 < length b → length d ≤ length b
-  divisor_short b d cb cd p pos =
+  divisor_short : (b d : List E) → is_canonical r d ≡ true → DividesRight r f.frob d b → 0 < length b → length d ≤ length b
+  divisor_short b d cd p pos =
       let q : Ores r inv base f k l = (p.factor, p.factor_in) in
-      let h = ore_sizes r inv base f k l in
       let whole : length b ≡ len (R.mul q (d, cd)) = ap length p.is in
       ⊎_elim
-      (λ (none : len q < 1).
-      let gone : len (R.mul q (d, cd)) ≡ 0 = ap len (ap (λ x. R.mul x (d, cd)) (h.empty q (omega arith)) ∙ zero_mul R (d, cd)) in
+      (λ (low : length b < length d).
+      let none = no_multiple R len (ore_sizes r inv base f k l) q (d, cd) (omega arith) in
+      let gone : length b ≡ 0 = whole ∙ ap len (ap (λ x. R.mul x (d, cd)) none ∙ zero_mul R (d, cd)) in
       absurd (omega arith))
-      (λ (some : 1 ≤ len q).
-      ⊎_elim
-      (λ (low : length d < 1). omega arith)
-      (λ (high : 1 ≤ length d).
-      let all : len (R.mul q (d, cd)) + 1 ≡ len q + length d = h.product q (d, cd) some high in
-      omega arith)
-      (cases_lt (length d) 1))
-      (cases_lt (len q) 1)
+      (λ (high : length d ≤ length b). high)
+      (cases_lt (length b) (length d))
 
-  cofactor_short : (a b d s w : List E) → is_canonical r b ≡ true → 0 < length a → 0 < length b → IsCommonRight r f.frob a b d s w → length s + length d ≤ length b
-  cofactor_short a b d s w cb pa pb p =
-      let short : length d ≤ length b = divisor_short b d cb p.divisor p.right pb in
-      ⊎_elim
-      (λ (none : length s < 1). omega arith)
-      (λ (some : 1 ≤ length s). p.bound (not_empty a pa) (not_empty b pb) (not_empty s some))
-      (cases_lt (length s) 1)
+  cofactor_short : (a b d s w : List E) → 0 < length a → 0 < length b → IsCommonRight r f.frob a b d s w → length s + length d ≤ length b
+  cofactor_short a b d [] w pa pb p = omega (arith, divisor_short b d p.divisor p.right pb)
+  cofactor_short a b d (x ∷ s) w pa pb p = p.bound (not_empty a pa) (not_empty b pb) (λ e. cc)
 
   pub common_divisor : (a b d s w e t v : List E) → is_canonical r a ≡ true → is_canonical r b ≡ true → IsCommonRight r f.frob a b d s w → IsCommonRight r f.frob a b e t v → (d ≡ e) × (s ≡ t) × (w ≡ v)
   common_divisor a b d s w e t v ca cb p q =
-      let ops = twisted_ops r f.frob in
       let h = ore_sizes r inv base f k l in
+      let A : Ores r inv base f k l = (a, ca) in
+      let B : Ores r inv base f k l = (b, cb) in
       let one = common_of a b d s w ca cb p in
       let two = common_of a b e t v ca cb q in
-      let same : d ≡ e = ap (λ x. x.0) (divisor_same R len h Monic tops (a, ca) (b, cb) (d, p.divisor) (s, p.left_in) (w, p.right_in) (e, q.divisor) (t, q.left_in) (v, q.right_in) one two) in
-      ⊎_elim
-      (λ (no_b : length b < 1).
-      let none : b ≡ [] = nil_from_length b (omega arith) in
-      ⊎_elim
-      (λ (no_a : length a < 1).
-      let nothing : a ≡ [] = nil_from_length a (omega arith) in
-      let left = p.no_left nothing in
-      let right = q.no_left nothing in
-      (same, left.0 ∙ sym right.0, left.2 none ∙ sym (right.2 none)))
-      (λ (some_a : 1 ≤ length a).
-      let left = p.no_right (not_empty a some_a) none in
-      let right = q.no_right (not_empty a some_a) none in
-      let drop : (x y : Ores r inv base f k l) → R.add (R.mul x (a, ca)) (R.mul y (b, cb)) ≡ R.mul x (a, ca) = λ x y.
-      ap (R.add (R.mul x (a, ca))) (ap (R.mul y) (h.empty (b, cb) (omega arith)) ∙ mul_zero R y) ∙ add_zero R _ in (
-        same,
-        ap (λ x. x.0)
-            (cancel_right R len h (s, p.left_in) (t, q.left_in) (a, ca) some_a
-            (sym (drop (s, p.left_in) (w, p.right_in)) ∙ sym one.sum ∙ same_element ops _ _ same ∙ two.sum ∙ drop (t, q.left_in) (v, q.right_in))),
-        left.0 ∙ sym right.0,
-      ))
-      (cases_lt (length a) 1))
-      (λ (some_b : 1 ≤ length b).
-      ⊎_elim
-      (λ (no_a : length a < 1).
-      let nothing : a ≡ [] = nil_from_length a (omega arith) in
-      let left = p.no_left nothing in
-      let right = q.no_left nothing in
-      let drop : (x y : Ores r inv base f k l) → R.add (R.mul x (a, ca)) (R.mul y (b, cb)) ≡ R.mul y (b, cb) = λ x y.
-      ap (λ z. R.add z (R.mul y (b, cb))) (ap (R.mul x) (h.empty (a, ca) (omega arith)) ∙ mul_zero R x) ∙ R.zero_add _ in (
-        same,
-        left.0 ∙ sym right.0,
-        ap (λ x. x.0)
-            (cancel_right R len h (w, p.right_in) (v, q.right_in) (b, cb) some_b
-            (sym (drop (s, p.left_in) (w, p.right_in)) ∙ sym one.sum ∙ same_element ops _ _ same ∙ two.sum ∙ drop (t, q.left_in) (v, q.right_in))),
-      ))
-      (λ (some_a : 1 ≤ length a).
-      let both = cofactors_same R len h Monic tops (a, ca) (b, cb) (d, p.divisor) (s, p.left_in) (w, p.right_in) (e, q.divisor) (t, q.left_in) (v, q.right_in) some_b one two
-      (cofactor_short a b d s w cb some_a some_b p) (cofactor_short a b e t v cb some_a some_b q) in
-      (same, ap (λ x. x.0) both.0, ap (λ x. x.0) both.1))
-      (cases_lt (length a) 1))
-      (cases_lt (length b) 1)
+      let both = divisor_same R len h Monic tops _ _ _ _ _ _ _ _ one two in
+      let sums = sym one.sum ∙ both ∙ two.sum in
+      let equal : d ≡ e = ap (λ x. x.0) both in
+      elim (empty_or_not a) [
+        | inl none ↦
+            let left = p.no_left none in
+            let right = q.no_left none in
+            elim (empty_or_not b) [
+              | inl nothing ↦ (equal, left.0 ∙ sym right.0, left.2 nothing ∙ sym (right.2 nothing))
+              | inr some ↦ (
+                equal,
+                left.0 ∙ sym right.0,
+                ap (λ x. x.0) (cancel_right R len h _ _ B some (sym (left_empty _ _ A B none) ∙ sums ∙ left_empty _ _ A B none)),
+              )
+            ]
+        | inr some ↦ elim (empty_or_not b) [
+            | inl none ↦ (
+              equal,
+              ap (λ x. x.0) (cancel_right R len h _ _ A some (sym (right_empty _ _ A B none) ∙ sums ∙ right_empty _ _ A B none)),
+              (p.no_right (not_empty a some) none).0 ∙ sym (q.no_right (not_empty a some) none).0,
+            )
+            | inr more ↦
+                let cofactors =
+                cofactors_same R len h Monic tops _ _ _ _ _ _ _ _ more one two (cofactor_short a b d s w some more p) (cofactor_short a b e t v some more q) in
+                (equal, ap (λ x. x.0) cofactors.0, ap (λ x. x.0) cofactors.1)
+          ]
+      ]
 
   not_zero : (m : List E) → IsMonic r m → 0 < length m
   not_zero [] monic = absurd (k.one_ne_zero (sym monic))
@@ -151,12 +143,11 @@ module _ {E B : Type 0} (r : RingOps E) (inv : E → Option E) (base : RingOps B
   multiple_of : (a b m s w : List E) (ca : is_canonical r a ≡ true) (cb : is_canonical r b ≡ true) (pa : 0 < length a) (pb : 0 < length b) (p : IsLeastMultiple r f.frob a b m s w)
       → Multiple R len Monic (a, ca) (b, cb) (m, p.multiple) (s, p.left_in) (w, p.right_in)
   multiple_of a b m s w ca cb pa pb p =
-      let ops = twisted_ops r f.frob in
       let na = not_empty a pa in
       let nb = not_empty b pb in
       record {
-        left = same_element ops _ _ p.left;
-        right = same_element ops _ _ p.right;
+        left = same _ _ p.left;
+        right = same _ _ p.right;
         monic = p.monic na nb;
         nonzero = not_zero m (p.monic na nb);
         least = λ n t v pos left right.
@@ -165,31 +156,23 @@ module _ {E B : Type 0} (r : RingOps E) (inv : E → Option E) (base : RingOps B
 
   pub least_multiple : (a b m s w n t v : List E) → is_canonical r a ≡ true → is_canonical r b ≡ true → IsLeastMultiple r f.frob a b m s w → IsLeastMultiple r f.frob a b n t v → (m ≡ n) × (s ≡ t) × (w ≡ v)
   least_multiple a b m s w n t v ca cb p q =
-      ⊎_elim
-      (λ (no_a : length a < 1).
-      let none : a ≡ [] = nil_from_length a (omega arith) in
-      let left = p.no_left none in
-      let right = q.no_left none in
-      (left.0 ∙ sym right.0, left.1 ∙ sym right.1, left.2 ∙ sym right.2))
-      (λ (some_a : 1 ≤ length a).
-      ⊎_elim
-      (λ (no_b : length b < 1).
-      let none : b ≡ [] = nil_from_length b (omega arith) in
-      let left = p.no_right none in
-      let right = q.no_right none in
-      (left.0 ∙ sym right.0, left.1 ∙ sym right.1, left.2 ∙ sym right.2))
-      (λ (some_b : 1 ≤ length b).
-      let all = multiple_same R len (ore_sizes r inv base f k l) Monic tops (a, ca) (b, cb) (m, p.multiple) (s, p.left_in) (w, p.right_in) (n, q.multiple) (t, q.left_in) (v, q.right_in) some_a some_b
-      (multiple_of a b m s w ca cb some_a some_b p) (multiple_of a b n t v ca cb some_a some_b q) in
-      (ap (λ x. x.0) all.0, ap (λ x. x.0) all.1, ap (λ x. x.0) all.2))
-      (cases_lt (length b) 1))
-      (cases_lt (length a) 1)
+      let equal : (m ≡ []) × (s ≡ []) × (w ≡ []) → (n ≡ []) × (t ≡ []) × (v ≡ []) → (m ≡ n) × (s ≡ t) × (w ≡ v) = λ x y. (x.0 ∙ sym y.0, x.1 ∙ sym y.1, x.2 ∙ sym y.2) in
+      elim (empty_or_not a) [
+        | inl none ↦ equal (p.no_left none) (q.no_left none)
+        | inr some ↦ elim (empty_or_not b) [
+            | inl none ↦ equal (p.no_right none) (q.no_right none)
+            | inr more ↦
+                let all =
+                multiple_same R len (ore_sizes r inv base f k l) Monic tops _ _ _ _ _ _ _ _ some more
+                (multiple_of a b m s w ca cb some more p) (multiple_of a b n t v ca cb some more q) in
+                (ap (λ x. x.0) all.0, ap (λ x. x.0) all.1, ap (λ x. x.0) all.2)
+          ]
+      ]
 
   -- every common divisor divides the greatest
   pub common_divisors : (a b d s w e : List E) → is_canonical r a ≡ true → is_canonical r b ≡ true → is_canonical r e ≡ true
       → IsCommonRight r f.frob a b d s w → DividesRight r f.frob e a → DividesRight r f.frob e b → DividesRight r f.frob e d
   common_divisors a b d s w e ca cb ce p left right =
-      let ops = twisted_ops r f.frob in
       let x : Ores r inv base f k l = (left.factor, left.factor_in) in
       let y : Ores r inv base f k l = (right.factor, right.factor_in) in
       let S : Ores r inv base f k l = (s, p.left_in) in
@@ -198,33 +181,24 @@ module _ {E B : Type 0} (r : RingOps E) (inv : E → Option E) (base : RingOps B
       record {
         factor = q.0;
         factor_in = q.1;
-        is =
-            p.sum
-            ∙ ap (λ z. z.0) (divides_sum R len (ore_sizes r inv base f k l) (a, ca) (b, cb) (e, ce) x y S W (same_element ops _ _ left.is) (same_element ops _ _ right.is));
+        is = p.sum ∙ ap (λ z. z.0) (divides_sum R len (ore_sizes r inv base f k l) (a, ca) (b, cb) (e, ce) x y S W (same _ _ left.is) (same _ _ right.is));
       }
 
-  zero_divided : (m n : List E) → is_canonical r m ≡ true → n ≡ [] → DividesRight r f.frob m n
-  zero_divided m n cm none = record { factor = []; factor_in = R.zero.1; is = none ∙ sym (ap (λ x. x.0) (zero_mul R (m, cm))) }
-
+  -- a multiple of zero is zero
   times_empty : (t a : List E) → is_canonical r t ≡ true → a ≡ [] → list_mul r f.frob t a ≡ []
   times_empty t a ct none = ap (list_mul r f.frob t) none ∙ ap (λ x. x.0) (mul_zero R (t, ct))
 
   -- every common multiple is a left multiple of the least
   pub common_multiples : (a b m s w n : List E) → is_canonical r a ≡ true → is_canonical r b ≡ true → is_canonical r n ≡ true
       → IsLeastMultiple r f.frob a b m s w → DividesRight r f.frob a n → DividesRight r f.frob b n → DividesRight r f.frob m n
-  common_multiples a b m s w n ca cb cn p left right =
-      let ops = twisted_ops r f.frob in
-      ⊎_elim
-      (λ (no_a : length a < 1).
-      zero_divided m n p.multiple (left.is ∙ times_empty left.factor a left.factor_in (nil_from_length a (omega arith))))
-      (λ (some_a : 1 ≤ length a).
-      ⊎_elim
-      (λ (no_b : length b < 1).
-      zero_divided m n p.multiple (right.is ∙ times_empty right.factor b right.factor_in (nil_from_length b (omega arith))))
-      (λ (some_b : 1 ≤ length b).
-      let q =
-      multiple_divides R len (ore_sizes r inv base f k l) Monic tops (a, ca) (b, cb) (m, p.multiple) (s, p.left_in) (w, p.right_in) (n, cn)
-      (left.factor, left.factor_in) (right.factor, right.factor_in) (multiple_of a b m s w ca cb some_a some_b p) (same_element ops _ _ left.is) (same_element ops _ _ right.is) in
-      record { factor = q.0.0; factor_in = q.0.1; is = ap (λ x. x.0) q.1 })
-      (cases_lt (length b) 1))
-      (cases_lt (length a) 1)
+  common_multiples a b m s w n ca cb cn p left right = elim (empty_or_not a) [
+    | inl none ↦ zero_divided m n p.multiple (left.is ∙ times_empty left.factor a left.factor_in none)
+    | inr some ↦ elim (empty_or_not b) [
+        | inl none ↦ zero_divided m n p.multiple (right.is ∙ times_empty right.factor b right.factor_in none)
+        | inr more ↦
+            let q =
+            multiple_divides R len (ore_sizes r inv base f k l) Monic tops _ _ _ _ _ (n, cn) (left.factor, left.factor_in) (right.factor, right.factor_in)
+            (multiple_of a b m s w ca cb some more p) (same _ _ left.is) (same _ _ right.is) in
+            record { factor = q.0.0; factor_in = q.0.1; is = ap (λ x. x.0) q.1 }
+      ]
+  ]

@@ -9,12 +9,12 @@ returns-then-is_empty g c =
     let short : length c.as_slice.result.now ≡ 0 = eqb-true _ _ (sym c.is_empty.ensures ∙ c.if-is_empty.true) in
     let none : c.args.a.now ≡ [] = sym c.as_slice.ensures ∙ nil_from_length c.as_slice.result.now short in
     let zero = c.in_ok-no_multiple.ensures in
-    no_multiple_is (g.K.Field.ops k) (g.K.Field.inv_of k) _ (g.K.FrobField.frob_ops k) (g.met.K.Field.laws k) (g.met.K.FrobField.frob_laws k) c.args.a.now c.args.b.now _ _ _
+    no_multiple_is _ _ _ _ (g.met.K.Field.laws k) (g.met.K.FrobField.frob_laws k) c.args.a.now c.args.b.now _ _ _
     c.requires.left c.requires.right (λ na nb. na none) zero.0 zero.1 zero.2
 
 pub returns-in_default : goal.returns-in_default
 returns-in_default g c =
     let k = c.args.k.now in
     let zero = c.in_ok-no_multiple-2.ensures in
-    no_multiple_is (g.K.Field.ops k) (g.K.Field.inv_of k) _ (g.K.FrobField.frob_ops k) (g.met.K.Field.laws k) (g.met.K.FrobField.frob_laws k) c.args.a.now c.args.b.now _ _ _
+    no_multiple_is _ _ _ _ (g.met.K.Field.laws k) (g.met.K.FrobField.frob_laws k) c.args.a.now c.args.b.now _ _ _
     c.requires.left c.requires.right (λ na nb. nb (sym c.as_slice-2.ensures ∙ c.in_default.ensures)) zero.0 zero.1 zero.2

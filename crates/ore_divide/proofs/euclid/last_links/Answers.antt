@@ -30,7 +30,7 @@ loop-before-preserved g c =
       left = held.left;
       right = held.right;
       links =
-          links_step (g.K.Field.ops k) (g.K.Field.inv_of k) _ (g.K.FrobField.frob_ops k) (g.met.K.Field.laws k) (g.met.K.FrobField.frob_laws k) c.args.a.now c.args.b.now
+          links_step _ _ _ _ (g.met.K.Field.laws k) (g.met.K.FrobField.frob_laws k) c.args.a.now c.args.b.now
           before.remainder.items after.remainder.items before.left.items after.left.items before.right.items after.right.items _ _ _
           held.left held.right held.links some c.in_ok-next.ensures;
     }
@@ -44,6 +44,6 @@ returns g c =
     let few : c.len.result ≤ 1 = c.loop-before-test.false in
     let ok = after.remainder.ok.0 in
     let short : length after.remainder.items ≤ 1 = omega (arith, few, ok) in
-    links_last (g.K.Field.ops k) (g.K.Field.inv_of k) _ (g.K.FrobField.frob_ops k) (g.met.K.Field.laws k) (g.met.K.FrobField.frob_laws k) c.args.a.now c.args.b.now
+    links_last _ _ _ _ (g.met.K.Field.laws k) (g.met.K.FrobField.frob_laws k) c.args.a.now c.args.b.now
     before.remainder.items after.remainder.items before.left.items after.left.items before.right.items after.right.items
     held.left held.right held.links short

@@ -26,22 +26,13 @@ pub returns : goal.returns
 returns g c =
     let k = c.args.field.now in
     let r = g.K.Field.ops k in
-    let f = g.K.FrobField.frob_ops k in
-    let a = c.args.a.now in
-    let b = c.args.b.now in
     let rest = c.in_ok-rest.rest in
     let quotient = c.in_ok-quotient.quotient in
-    let cleared = c.clear_places.new.rest in
-    let written = c.clear_places.new.quotient in
-    let old : c.deref_mut.result.now ≡ a = c.deref_mut.ensures.value ∙ c.in_ok-rest.ensures in
-    let rest_lent : length c.deref_mut.result.now ≡ length rest.items = ap length c.deref_mut.ensures.value in
-    let quotient_lent : length c.deref_mut-2.result.now ≡ length quotient.items = ap length c.deref_mut-2.ensures.value in
-    let rest_count : length rest.items ≡ rest.len = omega (arith, rest.ok.0) in
-    let quotient_count : length quotient.items ≡ quotient.len = omega (arith, quotient.ok.0) in
-    let rest_kept : length cleared ≡ rest.len = omega arith in
-    let quotient_kept : length written ≡ quotient.len = omega arith in
-    division_done r (g.K.Field.inv_of k) _ f (g.met.K.Field.laws k) (g.met.K.FrobField.frob_laws k) a b cleared written _ _
+    division_done r _ _ _ (g.met.K.Field.laws k) (g.met.K.FrobField.frob_laws k) c.args.a.now _ _ _ _ _
     c.requires.dividend c.requires.divisor c.clear_places.ensures.rest c.clear_places.ensures.quotient c.requires.nonzero c.clear_places.ensures.cleared
-    (c.trimmed.ensures.value ∙ ap (trim r) (whole_written quotient.len written quotient.items quotient_kept quotient_count))
-    (c.trimmed-2.ensures.value ∙ ap (trim r) (whole_written rest.len cleared rest.items rest_kept rest_count))
-    c.args.side (ap (trim r) (sym old) ∙ c.clear_places.ensures.divided)
+    (c.trimmed.ensures.value
+    ∙ ap (trim r)
+    (whole_written quotient.len c.clear_places.new.quotient quotient.items (omega (arith, quotient.ok.0, ap length c.deref_mut-2.ensures.value)) (omega (arith, quotient.ok.0))))
+    (c.trimmed-2.ensures.value
+    ∙ ap (trim r) (whole_written rest.len c.clear_places.new.rest rest.items (omega (arith, rest.ok.0, ap length c.deref_mut.ensures.value)) (omega (arith, rest.ok.0))))
+    c.args.side (rw (c.deref_mut.ensures.value, c.in_ok-rest.ensures) at c.clear_places.ensures.divided)
