@@ -66,8 +66,7 @@ module _ {E : Type 0} (r : RingOps E) (before out : List E) (i top : ℕ) (short
 
   pub kept_below : ((n : ℕ) → n < i → coeff r out n ≡ coeff r before n) → (n : ℕ) → n < i → coeff r (set out (i + top) x) n ≡ coeff r before n
   kept_below below n l =
-      let apart : n ≢ i + top = omega arith in
-      get_or-set_other out (i + top) n x r.zero apart ∙ below n l
+      get_or-set_other out (i + top) n x r.zero (omega arith) ∙ below n l
 
 -- one more place of the rest is zero
 pub place_cleared : {E : Type 0} (r : RingOps E) (h : IsRing r) (rest left : List E) (i count : ℕ) (term : ℕ → E) → are_elems r rest ≡ true → 0 < count
@@ -81,9 +80,7 @@ place_cleared r h rest left i count term er pos top added past cleared n high =
     (λ (here : n ≡ i + (count - 1)). ap (coeff r left) here ∙ top)
     (λ (other : n ≡ i + (count - 1) → ⊥).
     let j = n - i in
-    let place : n ≡ i + j = omega arith in
-    let over : count ≤ j = omega arith in
-    ap (coeff r left) place ∙ added j
-    ∙ add_nothing r h (coeff r rest (i + j)) (term j) (elem_read r rest h.closed.zero_in er (i + j)) (past j over)
+    ap (coeff r left) (omega arith) ∙ added j
+    ∙ add_nothing r h (coeff r rest (i + j)) (term j) (elem_read r rest h.closed.zero_in er (i + j)) (past j (omega arith))
     ∙ cleared (i + j) (omega arith))
     (cases_eq n (i + (count - 1)))

@@ -63,12 +63,9 @@ module _ {E B : Type 0} (r : RingOps E) (inv : E → Option E) (base : RingOps B
       let product = R.mul unit (u, cu) in
       let one : length (constant r c) ≡ 1 = ap length (single_is c pc (nonzero_right top c pt pc inverts)) in
       let whole : len product + 1 ≡ len unit + length u = h.product unit (u, cu) (omega arith) pos in
-      let place : length product.0 - 1 ≡ 0 + (length u - 1) = omega arith in
-      let short : length (constant r c) ≡ 0 + 1 = omega arith in
-      let long : length u ≡ length u - 1 + 1 = omega arith in
       let value : IsMonic r product.0 =
-      ap (coeff r product.0) place ∙ coeff-mul r k.ring f.frob twist (constant r c) u (and_parts _ _ ce).0 eu (0 + (length u - 1))
-      ∙ product_top r k.ring f.frob twist (constant r c) u (and_parts _ _ ce).0 eu 0 (length u - 1) short long
+      ap (coeff r product.0) (omega arith) ∙ coeff-mul r k.ring f.frob twist (constant r c) u (and_parts _ _ ce).0 eu (0 + (length u - 1))
+      ∙ product_top r k.ring f.frob twist (constant r c) u (and_parts _ _ ce).0 eu 0 (length u - 1) (omega arith) (omega arith)
       ∙ ap₂ r.mul (ap (λ v. coeff r v 0) (single_is c pc (nonzero_right top c pt pc inverts))) (l.frob_zero top pt)
       ∙ k.mul_comm c top pc pt ∙ inverts in
       rw (is_d, is_e)

@@ -54,17 +54,15 @@ module _ {E B : Type 0} (r : RingOps E) (inv : E → Option E) (base : RingOps B
       let ey : are_elems r y.0 ≡ true = (and_parts _ _ y.1).0 in
       let en : are_elems r (list_neg r y.0) ≡ true = (and_parts _ _ (R.neg y).1).0 in
       let n = length x.0 - 1 in
-      let place : n ≡ length y.0 - 1 = omega arith in
       length_below r k.ring (minus R x y).0 (length x.0) pos (and_parts _ _ (minus R x y).1).1
       (λ m past.
       coeff-add r k.ring x.0 (list_neg r y.0) ex en m ∙ ap (r.add (coeff r x.0 m)) (coeff-neg r k.ring y.0 ey m)
       ∙ ⊎_elim
       (λ (here : m ≡ n).
-      ap₂ (λ i j. r.add (coeff r x.0 i) (r.neg (coeff r y.0 j))) here (here ∙ place)
+      ap₂ (λ i j. r.add (coeff r x.0 i) (r.neg (coeff r y.0 j))) here (here ∙ (omega arith))
       ∙ ap₂ (λ s t. r.add s (r.neg t)) mx my ∙ k.ring.add_neg r.one k.ring.closed.one_in)
       (λ (other : m ≡ n → ⊥).
-      let over : length y.0 ≤ m = omega arith in
-      ap₂ (λ s t. r.add s (r.neg t)) (coeff_past r x.0 m (omega arith)) (coeff_past r y.0 m over) ∙ k.ring.add_neg r.zero z)
+      ap₂ (λ s t. r.add s (r.neg t)) (coeff_past r x.0 m (omega arith)) (coeff_past r y.0 m (omega arith)) ∙ k.ring.add_neg r.zero z)
       (cases_eq m n))
 
   pub right_division : (a b c d rest other : List E) → is_canonical r b ≡ true → IsRightDivision r f.frob a b c rest → IsRightDivision r f.frob a b d other → (c ≡ d) × (rest ≡ other)

@@ -25,14 +25,13 @@ loop-before-preserved g c =
     let after = c.loop-before.after in
     let long : 1 < c.len.result = c.loop-before-test.true in
     let ok = after.remainder.ok.0 in
-    let some : 0 < length after.remainder.items = omega (arith, long, ok) in
     record {
       left = held.left;
       right = held.right;
       links =
           links_step _ _ _ _ (g.met.K.Field.laws k) (g.met.K.FrobField.frob_laws k) c.args.a.now c.args.b.now
           before.remainder.items after.remainder.items before.left.items after.left.items before.right.items after.right.items _ _ _
-          held.left held.right held.links some c.in_ok-next.ensures;
+          held.left held.right held.links (omega (arith, long, ok)) c.in_ok-next.ensures;
     }
 
 pub returns : goal.returns
@@ -43,7 +42,6 @@ returns g c =
     let after = c.loop-before.after in
     let few : c.len.result ≤ 1 = c.loop-before-test.false in
     let ok = after.remainder.ok.0 in
-    let short : length after.remainder.items ≤ 1 = omega (arith, few, ok) in
     links_last _ _ _ _ (g.met.K.Field.laws k) (g.met.K.FrobField.frob_laws k) c.args.a.now c.args.b.now
     before.remainder.items after.remainder.items before.left.items after.left.items before.right.items after.right.items
-    held.left held.right held.links short
+    held.left held.right held.links (omega (arith, few, ok))

@@ -7,5 +7,4 @@ returns-in_ok-next_link g c =
     let after = c.in_ok-last.last.after in
     let nonzero = eqb-false _ _ (sym c.is_empty.ensures ∙ c.if-is_empty.false) in
     let ok = after.remainder.ok.0 in
-    let some : 0 < length after.remainder.items = omega (arith, nonzero, ok) in
-    (after.remainder.items, after.left.items, after.right.items, c.in_ok-last.ensures.next some _ _ _ c.in_ok-next_link.ensures)
+    (after.remainder.items, after.left.items, after.right.items, c.in_ok-last.ensures.next (omega (arith, nonzero, ok)) _ _ _ c.in_ok-next_link.ensures)

@@ -17,12 +17,11 @@ loop-j-preserved g c =
     let i = c.args.k in
     let j = c.loop-j.j in
     let held = c.loop-j.invariant in
-    let room : i + j < length out = omega arith in
     let terms : ℕ → g.row.K-Elem.Denot = λ j. r.add (coeff r before (i + j)) (term_on c.args.side r (g.K.FrobField.frob_ops k).frob c.args.c i c.args.row.now j) in
     let old = c.coeff_at-old.ensures.value ∙ next_place r.zero i j terms before out held.written in
     record {
       elems = elems_set r out (i + j) _ held.elems c.add-sum.ensures.elem;
-      written = written_more r.zero i j (i + j) terms before out _ held.written refl room (c.add-sum.ensures.value ∙ ap₂ r.add old c.term_at.ensures.value);
+      written = written_more r.zero i j (i + j) terms before out _ held.written refl (omega arith) (c.add-sum.ensures.value ∙ ap₂ r.add old c.term_at.ensures.value);
     }
 
 pub returns-then-equal-clause-added : goal.returns-then-equal-clause-added
@@ -47,7 +46,6 @@ returns-clause-added g c =
     let row = c.args.row.now in
     let i = c.args.k in
     let term = term_on c.args.side r f.frob c.args.c i row in
-    let all : c.loop-j.j ≡ length row = omega arith in
     terms_added r field.ring i (length row) term before c.loop-j.out c.requires.out
-    (subst (λ n. IsWritten r.zero i n (λ j. r.add (coeff r before (i + j)) (term j)) before c.loop-j.out) all c.loop-j.invariant.written)
+    (subst (λ n. IsWritten r.zero i n (λ j. r.add (coeff r before (i + j)) (term j)) before c.loop-j.out) (omega arith) c.loop-j.invariant.written)
     (term_past r (g.K.Field.inv_of k) _ f field (g.met.K.FrobField.frob_laws k) c.args.c i row c.requires.row c.requires.factor c.args.side)

@@ -23,9 +23,7 @@ returns-clause-added g c =
     let i = c.args.k in
     let high = length b - 1 in
     let factor = c.clearing_factor-factor.result in
-    let room : i + high < length c.add_multiple.new.out = omega arith in
-    let long : length b ≡ high + 1 = omega arith in
     all_added r rest c.add_multiple.new.out i high
-    (term_on c.args.side r f.frob factor i (take high b)) (term_on c.args.side r f.frob factor i b) c.zero.result room c.zero.ensures.value c.add_multiple.ensures.added
-    (λ j. term_without r (g.K.Field.inv_of k) _ f (g.met.K.Field.laws k) (g.met.K.FrobField.frob_laws k) c.args.side factor i b high j long)
+    (term_on c.args.side r f.frob factor i (take high b)) (term_on c.args.side r f.frob factor i b) c.zero.result (omega arith) c.zero.ensures.value c.add_multiple.ensures.added
+    (λ j. term_without r (g.K.Field.inv_of k) _ f (g.met.K.Field.laws k) (g.met.K.FrobField.frob_laws k) c.args.side factor i b high j (omega arith))
     (ap (λ x. r.add x (term_on c.args.side r f.frob factor i b high)) (sym c.coeff_at-top.ensures.value) ∙ c.clearing_factor-factor.ensures.clears)

@@ -37,7 +37,6 @@ loop-k-preserved g c =
     let factor = c.clear_place-factor.result in
     let step = c.clear_place-factor.ensures in
     let after = c.clear_place-factor.new.rest in
-    let room : i < length quotient = omega arith in
     record {
       rest_elems = step.elems;
       quotient_elems = elems_set r quotient i _ held.quotient_elems c.neg.ensures.elem;
@@ -45,7 +44,7 @@ loop-k-preserved g c =
       divided =
           divided_more r (g.K.Field.inv_of k) _ f field laws c.args.side c.args.rest.now rest after b quotient _ factor c.neg.result i
           c.requires.rest held.rest_elems step.elems c.requires.divisor step.elem step.below held.quotient_elems
-          (elems_set r quotient i _ held.quotient_elems c.neg.ensures.elem) c.neg.ensures.value (held.zeros i (omega arith)) (get_or-set_same quotient i _ r.zero room)
+          (elems_set r quotient i _ held.quotient_elems c.neg.ensures.elem) c.neg.ensures.value (held.zeros i (omega arith)) (get_or-set_same quotient i _ r.zero (omega arith))
           (λ n apart. get_or-set_other quotient i n _ r.zero apart) held.divided step.added;
       cleared =
           place_cleared r field.ring rest after i (length b) (term_on c.args.side r f.frob factor i b) held.rest_elems c.requires.nonzero step.cleared step.added
