@@ -17,10 +17,8 @@ module _ {E : Type 0} (r : RingOps E) (h : IsRing r) where
   pub term_written : (out before : List E) (c x : E) (k : ℕ) → are_elems r out ≡ true → are_elems r before ≡ true → IsElem r c → x ≡ r.neg c → coeff r before k ≡ r.zero → coeff r out k ≡ x
       → ((n : ℕ) → n ≢ k → coeff r out n ≡ coeff r before n) → trim r out ≡ list_add r (trim r before) (list_neg r (monomial r c k))
   term_written out before c x k eo eb p is old new others =
-      let z = h.closed.zero_in in
       let term = (and_parts _ _ (monomial_in r h c k p)).0 in
-      let negative : are_elems r (list_neg r (monomial r c k)) ≡ true = (and_parts _ _ (neg_in r h (monomial r c k) term)).0 in
-      trim_sum r h out before (list_neg r (monomial r c k)) eo eb negative
+      trim_sum r h out before (list_neg r (monomial r c k)) eo eb (and_parts _ _ (neg_in r h (monomial r c k) term)).0
       (λ n.
       ⊎_elim
       (λ (here : n ≡ k).
@@ -28,7 +26,7 @@ module _ {E : Type 0} (r : RingOps E) (h : IsRing r) where
       ∙ sym (ap₂ (λ i y. r.add (coeff r before i) (r.neg y)) here (ap (coeff r (monomial r c k)) here ∙ coeff-monomial_same r h c k p) ∙ ap (λ y. r.add y (r.neg c)) old))
       (λ (other : n ≡ k → ⊥).
       others n other
-      ∙ sym (add_nothing r h (coeff r before n) (r.neg (coeff r (monomial r c k) n)) (elem_read r before z eb n)
+      ∙ sym (add_nothing r h (coeff r before n) (r.neg (coeff r (monomial r c k) n)) (elem_read r before h.closed.zero_in eb n)
       (ap r.neg (coeff-monomial_other r h c k n p other) ∙ ap (λ y. y.0) (neg_zero (elements h)))))
       (cases_eq n k)
       ∙ ap (r.add (coeff r before n)) (sym (coeff-neg r h (monomial r c k) term n)))
@@ -60,8 +58,7 @@ module _ {E : Type 0} (r : RingOps E) (before out : List E) (i top : ℕ) (short
       ap (λ n. coeff r (set out (i + top) x) (i + n)) here ∙ top_cleared ∙ sym clears
       ∙ ap (λ n. r.add (coeff r before (i + n)) (term n)) (sym here))
       (λ (other : j ≡ top → ⊥).
-      let apart : i + j ≢ i + top = λ e. other (omega arith) in
-      get_or-set_other out (i + top) (i + j) x r.zero apart ∙ added j ∙ ap (r.add (coeff r before (i + j))) (same j other))
+      get_or-set_other out (i + top) (i + j) x r.zero (λ e. other (omega arith)) ∙ added j ∙ ap (r.add (coeff r before (i + j))) (same j other))
       (cases_eq j top)
 
   pub kept_below : ((n : ℕ) → n < i → coeff r out n ≡ coeff r before n) → (n : ℕ) → n < i → coeff r (set out (i + top) x) n ≡ coeff r before n

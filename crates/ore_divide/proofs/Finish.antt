@@ -1,5 +1,5 @@
 -- Divisors and multiples from the end of Euclid's chain, over lists.
-use Rattle.std.proofs.Common.{◌≡◌, ◌≢◌, ℕ, ◌+◌, ◌-◌, ◌<◌, ◌≤◌, inl, inr, true, not, Option, List, [], ◌∷◌, length, refl, sym, ◌∙◌, ap, ap₂, arith}
+use Rattle.std.proofs.Common.{◌≡◌, ◌≢◌, ℕ, ◌+◌, ◌-◌, ◌<◌, inl, inr, true, not, Option, List, [], ◌∷◌, length, refl, sym, ◌∙◌, ap, ap₂, arith}
 use Rattle.std.proofs.lemmas.Bool.{and_parts, and_from, false_from_ne_true}
 use Rattle.ring_core.specs.Ring.{RingOps, IsElem}
 use Rattle.ring_core.specs.Field.{IsField, FrobOps, IsFrobField}
@@ -44,16 +44,13 @@ module _ {E B : Type 0} (r : RingOps E) (inv : E → Option E) (base : RingOps B
   -- the constants t and c are inverse to each other
   constants_inverse : (t c : E) → IsElem r t → IsElem r c → r.mul t c ≡ r.one → list_mul r f.frob (constant r t) (constant r c) ≡ r.one ∷ []
   constants_inverse t c p q e =
-      let nc = nonzero_right t c p q e in
-      let ec = (and_parts _ _ (monomial_in r k.ring c 0 q)).0 in
-      sym (constant_mul r k.ring f.frob (frob_twist r inv base f k l) t (constant r c) p ec)
-      ∙ ap (λ u. list_of r (length u) (λ i. r.mul t (coeff r u i))) (single_is c q nc)
+      sym (constant_mul r k.ring f.frob (frob_twist r inv base f k l) t (constant r c) p (and_parts _ _ (monomial_in r k.ring c 0 q)).0)
+      ∙ ap (λ u. list_of r (length u) (λ i. r.mul t (coeff r u i))) (single_is c q (nonzero_right t c p q e))
       ∙ ap (λ x. trim r (x ∷ [])) e ∙ trim-trimmed r (r.one ∷ []) (and_parts _ _ R.one.1).1
 
   pub monic_done : (u d e : List E) (c : E) → is_canonical r u ≡ true → 0 < length u → IsElem r c → r.mul (coeff r u (length u - 1)) c ≡ r.one
       → d ≡ list_mul r f.frob (constant r c) u → e ≡ constant r c → IsMadeMonic r f.frob u d e
   monic_done u d e c cu pos pc inverts is_d is_e =
-      let h = ore_sizes r inv base f k l in
       let twist = frob_twist r inv base f k l in
       let eu : are_elems r u ≡ true = (and_parts _ _ cu).0 in
       let top = coeff r u (length u - 1) in
@@ -62,7 +59,7 @@ module _ {E B : Type 0} (r : RingOps E) (inv : E → Option E) (base : RingOps B
       let unit : Ores r inv base f k l = (constant r c, ce) in
       let product = R.mul unit (u, cu) in
       let one : length (constant r c) ≡ 1 = ap length (single_is c pc (nonzero_right top c pt pc inverts)) in
-      let whole : len product + 1 ≡ len unit + length u = h.product unit (u, cu) (omega arith) pos in
+      let whole : len product + 1 ≡ len unit + length u = (ore_sizes r inv base f k l).product unit (u, cu) (omega arith) pos in
       let value : IsMonic r product.0 =
       ap (coeff r product.0) (omega arith) ∙ coeff-mul r k.ring f.frob twist (constant r c) u (and_parts _ _ ce).0 eu (0 + (length u - 1))
       ∙ product_top r k.ring f.frob twist (constant r c) u (and_parts _ _ ce).0 eu 0 (length u - 1) (omega arith) (omega arith)
@@ -211,7 +208,6 @@ module _ {E B : Type 0} (r : RingOps E) (inv : E → Option E) (base : RingOps B
         let h = ore_sizes r inv base f k l in
         let unit : Ores r inv base f k l = (e, mm.unit_in) in
         let V : Ores r inv base f k l = (sv, link.left_factor_in) in
-        let rising : length su < length sv = link.small in
         let whole : len (R.mul V (a, ca)) + 1 ≡ length sv + length a = h.product V (a, ca) (omega arith) pa in
         let pos : 0 < length product = omega (arith, ap length is_product) in
         let i = mm.inverse (not_empty product pos) in

@@ -29,7 +29,6 @@ module _ {E B : Type 0} (r : RingOps E) (inv : E → Option E) (base : RingOps B
       → trim r grown_left ≡ trim r su → trim r grown_right ≡ trim r wu → IsReduced r f.frob u grown_left grown_right v sv wv rest left right
       → final ≡ trim r rest → next ≡ trim r left → past ≡ trim r right → IsNextLink r f.frob u v su sv wu wv final next past
   link_done u v su sv wu wv grown_left grown_right rest left right final next past cu cv csu cwu er el et pos cleared same_left same_right reduced is_rest is_next is_past =
-      let q : Ores r inv base f k l = (reduced.factor, reduced.factor_in) in
       rw (is_rest, is_next, is_past)
       (record {
         quotient = reduced.factor;
@@ -39,7 +38,7 @@ module _ {E B : Type 0} (r : RingOps E) (inv : E → Option E) (base : RingOps B
         past_in = canonical-trim r right et;
         first =
             sym (trim-trimmed r u (and_parts _ _ cu).1) ∙ reduced.first
-            ∙ ap (λ x. x.0) (R.add_comm (trimmed_ore r inv base f k l rest er) (R.mul q (v, cv)));
+            ∙ ap (λ x. x.0) (R.add_comm (trimmed_ore r inv base f k l rest er) (R.mul (reduced.factor, reduced.factor_in) (v, cv)));
         second = sym (trim-trimmed r su (and_parts _ _ csu).1) ∙ sym same_left ∙ reduced.second;
         third = sym (trim-trimmed r wu (and_parts _ _ cwu).1) ∙ sym same_right ∙ reduced.third;
         lower = rest_short r inv base f k l v rest er pos cleared;

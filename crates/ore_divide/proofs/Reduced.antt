@@ -60,9 +60,8 @@ module _ {E B : Type 0} (r : RingOps E) (inv : E → Option E) (base : RingOps B
         → trim r u ≡ list_add r (trim r after) (multiple_on s r f.frob (less q c i p).0 row)
     more_taken held added =
         let ops = twisted_ops r f.frob in
-        let R = ores r inv base f k l in
         ap (λ x. x.0)
-        (taken R s (trimmed_ore u eu) (trimmed_ore rest er) (trimmed_ore after ea) q term (row, cr)
+        (taken (ores r inv base f k l) s (trimmed_ore u eu) (trimmed_ore rest er) (trimmed_ore after ea) q term (row, cr)
         (same_element ops _ _ (held ∙ ap (list_add r (trim r rest)) (sym (multiple_is r inv base f k l s q (row, cr))))) (same_element ops _ _ (term_taken s added)))
         ∙ ap (list_add r (trim r after)) (multiple_is r inv base f k l s (less q c i p) (row, cr))
 

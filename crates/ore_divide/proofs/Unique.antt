@@ -50,13 +50,12 @@ module _ {E B : Type 0} (r : RingOps E) (inv : E → Option E) (base : RingOps B
   pub tops : (x y : Ores r inv base f k l) → Monic x → Monic y → len x ≡ len y → 0 < len x → len (minus R x y) < len x
   tops x y mx my same pos =
       let z = k.ring.closed.zero_in in
-      let ex : are_elems r x.0 ≡ true = (and_parts _ _ x.1).0 in
       let ey : are_elems r y.0 ≡ true = (and_parts _ _ y.1).0 in
       let en : are_elems r (list_neg r y.0) ≡ true = (and_parts _ _ (R.neg y).1).0 in
       let n = length x.0 - 1 in
       length_below r k.ring (minus R x y).0 (length x.0) pos (and_parts _ _ (minus R x y).1).1
       (λ m past.
-      coeff-add r k.ring x.0 (list_neg r y.0) ex en m ∙ ap (r.add (coeff r x.0 m)) (coeff-neg r k.ring y.0 ey m)
+      coeff-add r k.ring x.0 (list_neg r y.0) (and_parts _ _ x.1).0 en m ∙ ap (r.add (coeff r x.0 m)) (coeff-neg r k.ring y.0 ey m)
       ∙ ⊎_elim
       (λ (here : m ≡ n).
       ap₂ (λ i j. r.add (coeff r x.0 i) (r.neg (coeff r y.0 j))) here (here ∙ (omega arith))
@@ -122,16 +121,16 @@ module _ {E B : Type 0} (r : RingOps E) (inv : E → Option E) (base : RingOps B
               )
             ]
         | inr some ↦ elim (empty_or_not b) [
-            | inl none ↦ (
-              equal,
-              ap (λ x. x.0) (cancel_right R len h _ _ A some (sym (right_empty _ _ A B none) ∙ sums ∙ right_empty _ _ A B none)),
-              (p.no_right (not_empty a some) none).0 ∙ sym (q.no_right (not_empty a some) none).0,
-            )
-            | inr more ↦
-                let cofactors =
-                cofactors_same R len h Monic tops _ _ _ _ _ _ _ _ more one two (cofactor_short a b d s w some more p) (cofactor_short a b e t v some more q) in
-                (equal, ap (λ x. x.0) cofactors.0, ap (λ x. x.0) cofactors.1)
-          ]
+          | inl none ↦ (
+            equal,
+            ap (λ x. x.0) (cancel_right R len h _ _ A some (sym (right_empty _ _ A B none) ∙ sums ∙ right_empty _ _ A B none)),
+            (p.no_right (not_empty a some) none).0 ∙ sym (q.no_right (not_empty a some) none).0,
+          )
+          | inr more ↦
+              let cofactors =
+              cofactors_same R len h Monic tops _ _ _ _ _ _ _ _ more one two (cofactor_short a b d s w some more p) (cofactor_short a b e t v some more q) in
+              (equal, ap (λ x. x.0) cofactors.0, ap (λ x. x.0) cofactors.1)
+        ]
       ]
 
   not_zero : (m : List E) → IsMonic r m → 0 < length m
@@ -158,13 +157,13 @@ module _ {E B : Type 0} (r : RingOps E) (inv : E → Option E) (base : RingOps B
       elim (empty_or_not a) [
         | inl none ↦ equal (p.no_left none) (q.no_left none)
         | inr some ↦ elim (empty_or_not b) [
-            | inl none ↦ equal (p.no_right none) (q.no_right none)
-            | inr more ↦
-                let all =
-                multiple_same R len (ore_sizes r inv base f k l) Monic tops _ _ _ _ _ _ _ _ some more
-                (multiple_of a b m s w ca cb some more p) (multiple_of a b n t v ca cb some more q) in
-                (ap (λ x. x.0) all.0, ap (λ x. x.0) all.1, ap (λ x. x.0) all.2)
-          ]
+          | inl none ↦ equal (p.no_right none) (q.no_right none)
+          | inr more ↦
+              let all =
+              multiple_same R len (ore_sizes r inv base f k l) Monic tops _ _ _ _ _ _ _ _ some more
+              (multiple_of a b m s w ca cb some more p) (multiple_of a b n t v ca cb some more q) in
+              (ap (λ x. x.0) all.0, ap (λ x. x.0) all.1, ap (λ x. x.0) all.2)
+        ]
       ]
 
   -- every common divisor divides the greatest
@@ -192,11 +191,11 @@ module _ {E B : Type 0} (r : RingOps E) (inv : E → Option E) (base : RingOps B
   common_multiples a b m s w n ca cb cn p left right = elim (empty_or_not a) [
     | inl none ↦ zero_divided m n p.multiple (left.is ∙ times_empty left.factor a left.factor_in none)
     | inr some ↦ elim (empty_or_not b) [
-        | inl none ↦ zero_divided m n p.multiple (right.is ∙ times_empty right.factor b right.factor_in none)
-        | inr more ↦
-            let q =
-            multiple_divides R len (ore_sizes r inv base f k l) Monic tops _ _ _ _ _ (n, cn) (left.factor, left.factor_in) (right.factor, right.factor_in)
-            (multiple_of a b m s w ca cb some more p) (same _ _ left.is) (same _ _ right.is) in
-            record { factor = q.0.0; factor_in = q.0.1; is = ap (λ x. x.0) q.1 }
-      ]
+      | inl none ↦ zero_divided m n p.multiple (right.is ∙ times_empty right.factor b right.factor_in none)
+      | inr more ↦
+          let q =
+          multiple_divides R len (ore_sizes r inv base f k l) Monic tops _ _ _ _ _ (n, cn) (left.factor, left.factor_in) (right.factor, right.factor_in)
+          (multiple_of a b m s w ca cb some more p) (same _ _ left.is) (same _ _ right.is) in
+          record { factor = q.0.0; factor_in = q.0.1; is = ap (λ x. x.0) q.1 }
+    ]
   ]

@@ -1,4 +1,4 @@
-use Rattle.std.proofs.Common.{◌≡◌, ◌+◌, ◌≤◌, length, ap, ◌∙◌, arith}
+use Rattle.std.proofs.Common.{◌≡◌, ◌+◌, length, ap, ◌∙◌, arith}
 use Rattle.ring_core.specs.Coeffs.{trim}
 use Rattle.ring_core.proofs.Coefficients.{elems_more, trim_push}
 use Rattle.std.proofs.lemmas.List.{length_push}
@@ -15,5 +15,5 @@ loop-i-preserved g c =
     record {
       elems = elems_more r c.loop-i.grown.items _ c.zero.result pushed held.elems c.zero.ensures.elem;
       value = ap (trim r) pushed ∙ trim_push r c.loop-i.grown.items c.zero.result (ap (λ x. r.same x r.zero) zero ∙ ring.equal.same_refl r.zero ring.closed.zero_in) ∙ held.value;
-      count = let long : length c.push.new.self.items ≡ length c.loop-i.grown.items + 1 = ap length pushed ∙ length_push c.loop-i.grown.items c.zero.result in let before : c.loop-i._i ≤ length c.loop-i.grown.items = held.count in omega arith;
+      count = let long : length c.push.new.self.items ≡ length c.loop-i.grown.items + 1 = ap length pushed ∙ length_push c.loop-i.grown.items c.zero.result in omega arith;
     }

@@ -1,4 +1,4 @@
-use Rattle.std.proofs.Common.{◌<◌, ◌≤◌, ◌∷◌, [], length, ap, ◌∙◌, arith}
+use Rattle.std.proofs.Common.{◌∷◌, [], ap, ◌∙◌, arith}
 use Rattle.ring_core.specs.Twisted.{list_neg}
 use Rattle.ore_divide.proofs.Links.{links_start, links_step, links_last}
 use Rattle.ore_divide.proofs.euclid.last_links.Goals as goal
@@ -23,15 +23,13 @@ loop-before-preserved g c =
     let held = c.loop-before.invariant in
     let before = c.loop-before.before in
     let after = c.loop-before.after in
-    let long : 1 < c.len.result = c.loop-before-test.true in
-    let ok = after.remainder.ok.0 in
     record {
       left = held.left;
       right = held.right;
       links =
           links_step _ _ _ _ (g.met.K.Field.laws k) (g.met.K.FrobField.frob_laws k) c.args.a.now c.args.b.now
           before.remainder.items after.remainder.items before.left.items after.left.items before.right.items after.right.items _ _ _
-          held.left held.right held.links (omega (arith, long, ok)) c.in_ok-next.ensures;
+          held.left held.right held.links (omega (arith, c.loop-before-test.true, after.remainder.ok.0)) c.in_ok-next.ensures;
     }
 
 pub returns : goal.returns
@@ -40,8 +38,6 @@ returns g c =
     let held = c.loop-before.invariant in
     let before = c.loop-before.before in
     let after = c.loop-before.after in
-    let few : c.len.result ≤ 1 = c.loop-before-test.false in
-    let ok = after.remainder.ok.0 in
     links_last _ _ _ _ (g.met.K.Field.laws k) (g.met.K.FrobField.frob_laws k) c.args.a.now c.args.b.now
     before.remainder.items after.remainder.items before.left.items after.left.items before.right.items after.right.items
-    held.left held.right held.links (omega (arith, few, ok))
+    held.left held.right held.links (omega (arith, c.loop-before-test.false, after.remainder.ok.0))

@@ -1,4 +1,4 @@
-use Rattle.std.proofs.Common.{◌≡◌, true, ℕ, ◌+◌, ◌<◌, length, subst, refl, ap₂, ◌∙◌, arith}
+use Rattle.std.proofs.Common.{ℕ, ◌+◌, length, subst, refl, ap₂, ◌∙◌, arith}
 use Rattle.ring_core.specs.Coeffs.{coeff}
 use Rattle.ring_core.specs.Written.{IsWritten}
 use Rattle.ring_core.proofs.Coefficients.{elems_set}
@@ -31,8 +31,7 @@ returns-then-equal-clause-added g c =
     let f = g.K.FrobField.frob_ops k in
     let field = g.met.K.Field.laws k in
     let row = c.args.row.now in
-    let same : r.same c.args.c r.zero ≡ true = cc in
-    let none = field.ring.equal.same_eq _ _ c.requires.factor field.ring.closed.zero_in same in
+    let none = field.ring.equal.same_eq _ _ c.requires.factor field.ring.closed.zero_in cc in
     no_terms r field.ring c.args.k (term_on c.args.side r f.frob c.args.c c.args.k row) c.args.out.now c.requires.out
     (λ j. term_none r (g.K.Field.inv_of k) _ f field (g.met.K.FrobField.frob_laws k) c.args.c c.args.k row c.requires.row c.requires.factor c.args.side j none)
 

@@ -1,4 +1,4 @@
-use Rattle.std.proofs.Common.{◌≡◌, ◌+◌, ◌-◌, ◌<◌, length, take, sym, ap, ◌∙◌, arith}
+use Rattle.std.proofs.Common.{◌-◌, length, take, sym, ap, ◌∙◌, arith}
 use Rattle.ring_core.proofs.Coefficients.{elems_set, elems_take}
 use Rattle.ore_divide.specs.steps.Sides.{term_on}
 use Rattle.ore_divide.proofs.Cleared.{all_added}
@@ -18,12 +18,11 @@ returns-clause-added g c =
     let k = c.args.field.now in
     let r = g.K.Field.ops k in
     let f = g.K.FrobField.frob_ops k in
-    let rest = c.args.rest.now in
     let b = c.args.b.now in
     let i = c.args.k in
     let high = length b - 1 in
     let factor = c.clearing_factor-factor.result in
-    all_added r rest c.add_multiple.new.out i high
+    all_added r c.args.rest.now c.add_multiple.new.out i high
     (term_on c.args.side r f.frob factor i (take high b)) (term_on c.args.side r f.frob factor i b) c.zero.result (omega arith) c.zero.ensures.value c.add_multiple.ensures.added
     (λ j. term_without r (g.K.Field.inv_of k) _ f (g.met.K.Field.laws k) (g.met.K.FrobField.frob_laws k) c.args.side factor i b high j (omega arith))
     (ap (λ x. r.add x (term_on c.args.side r f.frob factor i b high)) (sym c.coeff_at-top.ensures.value) ∙ c.clearing_factor-factor.ensures.clears)

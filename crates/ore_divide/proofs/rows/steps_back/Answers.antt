@@ -8,5 +8,5 @@ returns g c =
     let k = c.args.field.now in
     let laws = g.met.K.FrobField.frob_laws k in
     let n = c.degree-n.result in
-    let pos : 0 < n = let some = laws.degree_pos in omega (arith, c.degree-n.ensures) in
+    let pos : 0 < n = omega (arith, c.degree-n.ensures) in
     λ x p. frob_back (g.K.Field.ops k) _ (g.K.FrobField.frob_ops k) laws x c.args.i n p c.degree-n.ensures (mod-lt c.args.i pos)
