@@ -16,7 +16,8 @@ use Rattle.linear_algebra.proofs.RowLists.{rows_at, row_len, row_elems}
 use Rattle.poly_reduce.specs.Matrices.{IsRelationRow, IsRowBasis}
 use Rattle.frobenius_rel.proofs.Values.{value_is}
 use Rattle.relation_theory.proofs.Relations.{IsRel}
-use Rattle.relation_theory.proofs.PolyEuclid.{polys, poly_euclidean, unit_length}
+use Rattle.relation_theory.proofs.PolyEuclid.{polys, poly_euclidean}
+use Rattle.relation_theory.proofs.Euclid.{domain, unit_size}
 use Rattle.relation_theory.proofs.Least.{IsLeast, least_is_monic}
 use Rattle.relation_theory.proofs.Bases.{IsBasisOfRelations, least_of_basis}
 use Rattle.frobenius_rel.proofs.ListBases.{basis_rows, basis_entry, is_basis_for}
@@ -76,7 +77,7 @@ module _ {E B : Type 0} (r : RingOps E) (inv : E → Option E) (base : RingOps B
       v = power_rows S A acts x (d * f.degree) rows are_coordinates
 
       s : Dependence A (suc (d * f.degree)) v
-      s = dependence A (poly_euclidean base binv kb).domain (suc (d * f.degree)) (d * f.degree) v (omega arith) (λ i _ j m. power_rows_past S A acts x (d * f.degree) rows are_coordinates i j m)
+      s = dependence A (domain A (λ t. length t.0) (poly_euclidean base binv kb)) (suc (d * f.degree)) (d * f.degree) v (omega arith) (λ i _ j m. power_rows_past S A acts x (d * f.degree) rows are_coordinates i j m)
 
       cut : ℕ → Element (twisted_ops base (λ c i. c))
       cut = beside (suc (d * f.degree)) s.by (λ _. A.zero)
@@ -121,13 +122,13 @@ module _ {E B : Type 0} (r : RingOps E) (inv : E → Option E) (base : RingOps B
       least_basis : IsLeast A v n first
       unfolding first
       least_basis =
-          least_of_basis A (poly_euclidean base binv kb).domain v n none
+          least_of_basis A (domain A (λ t. length t.0) (poly_euclidean base binv kb)) v n none
           (length basis) (basis_rows p ring (d * f.degree) more basis inside found v more_same) basis_is some
 
       top_constant : length (coeff p (row_at basis 0) n) ≡ 1
       top_constant =
           let u = least_is_monic A (λ t. length t.0) (poly_euclidean base binv kb) v (moves S A acts x (d * f.degree) rows are_coordinates) n first least_basis (d * f.degree) (power_rows_past S A acts x (d * f.degree) rows are_coordinates) in
-          ap length (sym (first_at n)) ∙ unit_length base binv kb (first n) u.0 u.1
+          ap length (sym (first_at n)) ∙ unit_size A (λ t. length t.0) (poly_euclidean base binv kb) (first n) u.0 u.1
 
       shape : is_row p (length more) (row_at basis 0) ≡ true
       shape = rows_at p (length more) basis found.shape 0 some

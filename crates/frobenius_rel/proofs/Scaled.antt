@@ -15,9 +15,7 @@ use Rattle.ring_core.proofs.FirstValues.{length-first_values, at-first_values}
 use Rattle.ring_core.proofs.Twist.{no_twist}
 use Rattle.ring_core.proofs.Monomial.{monomial_in, constant_mul}
 use Rattle.ring_core.proofs.Degrees.{top_nonzero}
-use Rattle.relation_theory.proofs.Relations.{IsRel, rel_add, rel_scale}
-use Rattle.relation_theory.proofs.PolyEuclid.{poly_euclidean}
-use Rattle.relation_theory.proofs.Bases.{rel_less}
+use Rattle.relation_theory.proofs.Relations.{IsRel, rel_less, rel_add, rel_scale}
 use Rattle.frobenius_rel.proofs.ListBases.{values, values_shape, values_at}
 use Rattle.relation_theory.proofs.PowerRelations.{power_rows, value_zero, rows_zero}
 use Rattle.frobenius_rel.specs.Relation.{relation_value, IsLeastRelation}
@@ -101,7 +99,7 @@ module _ {E B : Type 0} (r : RingOps E) (inv : E → Option E) (base : RingOps B
       top = same_element p _ _ (s.monic ∙ sym t.monic ∙ ap (λ m. coeff p c (m - 1)) (sym len))
 
       below : IsRel P v n apart
-      below = rel_less P (poly_euclidean base binv kb).domain v n apart
+      below = rel_less P v n apart
           (rel_add P v (suc n) (member a s.elems) (λ i. P.mul (P.neg P.one) (member c t.elems i)) (subst (λ m. IsRel P v m (member a s.elems)) size (rel_of a s.elems s.is))
           (rel_scale P v (suc n) (P.neg P.one) (member c t.elems) (subst (λ m. IsRel P v m (member c t.elems)) (sym len ∙ size) (rel_of c t.elems t.is))))
           (apart_is n ∙ ap (λ y. P.add y (P.neg (member c t.elems n))) top ∙ P.add_neg (member c t.elems n))

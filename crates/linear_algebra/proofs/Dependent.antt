@@ -32,17 +32,17 @@ pub record Dependence {M : Type 0} (R : RingOn M) (n : ℕ) (rows : ℕ → ℕ 
   pub is : (j : ℕ) → combine R n by rows j ≡ R.zero
 
 -- Number `j` of the places other than `q`.
-abbrev without : ℕ → ℕ → ℕ
+abbrev pub without : ℕ → ℕ → ℕ
 without q j = cond (nat_lt j q) j (suc j)
 
 without_before : (q j : ℕ) → j < q → without q j ≡ j
 without_before q j l = ap (λ b. cond b j (suc j)) (lt-ltb j q l)
 
-without_after : (q j : ℕ) → q ≤ j → without q j ≡ suc j
+pub without_after : (q j : ℕ) → q ≤ j → without q j ≡ suc j
 without_after q j l = ap (λ b. cond b j (suc j)) (le-ltb j q l)
 
 -- each place is `q` or another
-without_covers : (q j : ℕ) → (j ≡ q) ⊎ ((k : ℕ) × (without q k ≡ j))
+pub without_covers : (q j : ℕ) → (j ≡ q) ⊎ ((k : ℕ) × (without q k ≡ j))
 without_covers q j = elim (same_or_other j q) [
   | inl e ↦ inl e
   | inr d ↦ by_bool (nat_lt j q)
@@ -52,7 +52,7 @@ without_covers q j = elim (same_or_other j q) [
 
 module _ {M : Type 0} (R : RingOn M) (h : IsDomain R) where
   -- some member below `n` is not zero, or all are
-  find_nonzero : (n : ℕ) (x : ℕ → M) → ((q : ℕ) × (q < n) × (x q ≢ R.zero)) ⊎ ((q : ℕ) → q < n → x q ≡ R.zero)
+  pub find_nonzero : (n : ℕ) (x : ℕ → M) → ((q : ℕ) × (q < n) × (x q ≢ R.zero)) ⊎ ((q : ℕ) → q < n → x q ≡ R.zero)
   find_nonzero zero x = inr (λ q l. absurd (omega arith))
   find_nonzero (suc n) x = elim (find_nonzero n x) [
     | inl s ↦ inl (s.0, omega (arith, s.1), s.2)

@@ -1,104 +1,85 @@
 -- Rows over a Euclidean ring: some row is a combination of those before it.
 use Rattle.std.proofs.Common.{◌≡◌, ◌≢◌, ℕ, zero, suc, ◌+◌, ◌<◌, ◌≤◌, inl, inr, sym, ◌∙◌, ap, arith}
-use Rattle.ring_core.proofs.Carrier.{RingOn, add_zero, mul_zero}
+use Rattle.ring_core.proofs.Carrier.{RingOn, mul_zero, from_sum}
 use Rattle.linear_algebra.proofs.Sums.{total_zero, same_or_other}
 use Rattle.linear_algebra.proofs.Spans.{Spans, minus_plus, minus_self, span_zero, span_add, span_scale, span_minus, span_row, span_into, span_as}
-use Rattle.relation_theory.proofs.Euclid.{EuclidDivision, IsEuclidean}
-
-module _ {M : Type 0} (R : RingOn M) where
-  -- a combination of fewer rows
-  pub span_more : (n m : ℕ) (rows : ℕ → ℕ → M) (x : ℕ → M) → n ≤ m → Spans R n rows x → Spans R m rows x
-  span_more n m rows x l s = span_into R n m rows rows x (λ i b. span_row R m rows i (omega arith)) s
-
-  -- `a - q b = rest` where `a = q b + rest`
-  rest_is : (a q b rest : M) → a ≡ R.add (R.mul q b) rest → R.add a (R.neg (R.mul q b)) ≡ rest
-  rest_is a q b rest e =
-      ap (λ t. R.add t (R.neg (R.mul q b))) (e ∙ R.add_comm (R.mul q b) rest)
-      ∙ R.add_assoc rest (R.mul q b) _ ∙ ap (R.add rest) (R.add_neg (R.mul q b)) ∙ add_zero R rest
+use Rattle.euclid_theory.proofs.Sizes.{Divided, divide}
+use Rattle.relation_theory.proofs.Euclid.{IsEuclidean, domain, some_size}
 
 module _ {M : Type 0} (R : RingOn M) (size : M → ℕ) (h : IsEuclidean R size) where
-  -- the rows of which the next place is cleared
+  -- all rows are new, and no rows of width `w` are
   module _ (w : ℕ) (rows : ℕ → ℕ → M) (past : (i j : ℕ) → suc w ≤ j → rows i j ≡ R.zero)
       (new : (k : ℕ) → Spans R k rows (rows k) → ⊥)
       (ih : (v : ℕ → ℕ → M) → ((i j : ℕ) → w ≤ j → v i j ≡ R.zero) → ((k : ℕ) → Spans R k v (v k) → ⊥) → ⊥) where
-    -- `u` is a combination of the first n rows whose last place isn't zero and divides that of each row
-    module _ (n : ℕ) (u : ℕ → M) (s : Spans R n rows u) (ne : u w ≢ R.zero)
-        (divides : (i : ℕ) → (d : EuclidDivision R size (rows i w) (u w)) × (d.rest ≡ R.zero)) where
-      factor : ℕ → M
-      factor i = (divides i).0.quotient
+    -- zero at the last place too
+    narrow : (v : ℕ → ℕ → M) → ((i j : ℕ) → suc w ≤ j → v i j ≡ R.zero) → ((i : ℕ) → v i w ≡ R.zero) → (i j : ℕ) → w ≤ j → v i j ≡ R.zero
+    narrow v far last i j l = elim (same_or_other j w) [
+      | inl e ↦ ap (v i) e ∙ last i
+      | inr apart ↦ far i j (omega (arith, l, apart))
+    ]
 
-      clear : ℕ → ℕ → M
-      clear i j = R.add (rows (n + i) j) (R.neg (R.mul (factor (n + i)) (u j)))
+    -- the rows, less multiples of a combination of the first `n` of them whose last place isn't zero
+    module _ (n : ℕ) (u : ℕ → M) (s : Spans R n rows u) (ne : u w ≢ R.zero) where
+      part : (i : ℕ) → Divided R size (rows i w) (u w)
+      part i = divide R size h.sizes (suc (size (rows i w))) (rows i w) (u w) (omega arith) (some_size R size h (u w) ne)
 
-      u_past : (j : ℕ) → suc w ≤ j → u j ≡ R.zero
-      u_past j l = s.is j ∙ total_zero R n _ (λ i b. ap (R.mul (s.by i)) (past i j l) ∙ mul_zero R (s.by i))
+      multiple : ℕ → ℕ → M
+      multiple i j = R.mul (part i).quotient (u j)
 
-      clear_past : (i j : ℕ) → w ≤ j → clear i j ≡ R.zero
-      unfolding clear factor
-      clear_past i j l = elim (same_or_other j w) [
-        | inl e ↦
-            ap (λ t. R.add (rows (n + i) t) (R.neg (R.mul (factor (n + i)) (u t)))) e
-            ∙ rest_is R _ _ _ _ (divides (n + i)).0.is ∙ (divides (n + i)).1
-        | inr apart ↦
-            minus_self R _ _
-            (past (n + i) j (omega (arith, l, apart))
-            ∙ sym (ap (R.mul (factor (n + i))) (u_past j (omega (arith, l, apart))) ∙ mul_zero R _))
-      ]
+      rest : ℕ → ℕ → M
+      rest i j = R.add (rows i j) (R.neg (multiple i j))
 
-      clear_within : (k i : ℕ) → i < k → Spans R (n + k) rows (clear i)
-      unfolding clear
-      clear_within k i l =
-          span_minus R (n + k) rows (rows (n + i)) (λ j. R.mul (factor (n + i)) (u j))
-          (span_row R (n + k) rows (n + i) (omega arith))
-          (span_scale R (n + k) rows (factor (n + i)) u (span_more R n (n + k) rows u (omega arith) s))
+      rest_last : (i : ℕ) → rest i w ≡ (part i).rest
+      unfolding rest multiple
+      rest_last i = sym (from_sum R (part i).rest (multiple i w) (rows i w) (R.add_comm _ _ ∙ sym (part i).sum))
 
-      back : (k : ℕ) → Spans R k clear (clear k) → Spans R (n + k) rows (rows (n + k))
-      unfolding clear
-      back k t =
-          span_as R (n + k) rows _ (rows (n + k)) (λ j. sym (minus_plus R (rows (n + k) j) (R.mul (factor (n + k)) (u j))))
-          (span_add R (n + k) rows (clear k) (λ j. R.mul (factor (n + k)) (u j))
-          (span_into R k (n + k) clear rows (clear k) (clear_within k) t)
-          (span_scale R (n + k) rows (factor (n + k)) u (span_more R n (n + k) rows u (omega arith) s)))
+      rest_past : (i j : ℕ) → suc w ≤ j → rest i j ≡ R.zero
+      unfolding rest multiple
+      rest_past i j l =
+          minus_self R _ _
+          (past i j l
+          ∙ sym (ap (R.mul (part i).quotient) (s.is j ∙ total_zero R n _ (λ q b. ap (R.mul (s.by q)) (past q j l) ∙ mul_zero R (s.by q))) ∙ mul_zero R _))
 
-      none_left : ⊥
-      none_left = ih clear clear_past (λ k t. new (n + k) (back k t))
+      spans_multiple : (m i : ℕ) → n ≤ m → Spans R m rows (multiple i)
+      unfolding multiple
+      spans_multiple m i l =
+          span_scale R m rows (part i).quotient u (span_into R n m rows rows u (λ q b. span_row R m rows q (omega arith)) s)
+
+      spans_rest : (m i : ℕ) → n ≤ m → i < m → Spans R m rows (rest i)
+      unfolding rest
+      spans_rest m i l b = span_minus R m rows (rows i) (multiple i) (span_row R m rows i b) (spans_multiple m i l)
+
+      rests_new : (k : ℕ) → Spans R k (λ i. rest (n + i)) (rest (n + k)) → ⊥
+      unfolding rest
+      rests_new k t =
+          new (n + k)
+          (span_as R (n + k) rows _ (rows (n + k)) (λ j. sym (minus_plus R (rows (n + k) j) (multiple (n + k) j)))
+          (span_add R (n + k) rows (rest (n + k)) (multiple (n + k))
+          (span_into R k (n + k) (λ i. rest (n + i)) rows (rest (n + k)) (λ i b. spans_rest (n + k) (n + i) (omega arith) (omega arith)) t)
+          (spans_multiple (n + k) (n + k) (omega arith))))
+
+      none_left : ((i : ℕ) → rest i w ≡ R.zero) → ⊥
+      none_left z = ih (λ i. rest (n + i)) (narrow (λ i. rest (n + i)) (λ i. rest_past (n + i)) (λ i. z (n + i))) rests_new
 
     -- no combination has a last place other than zero: one of least size would clear that of all rows
-    smaller_at : (b : ℕ) → ((n : ℕ) (u : ℕ → M) → Spans R n rows u → u w ≢ R.zero → size (u w) < b → ⊥) → (n : ℕ) (u : ℕ → M) → Spans R n rows u → u w ≢ R.zero → size (u w) ≤ b → ⊥
-    smaller_at b less n u s ne l = none_left n u s ne (λ i.
-        let d = h.divide (rows i w) (u w) ne in
-        elim (h.domain.decided d.rest) [
-          | inl z ↦ (d, z)
-          | inr nz ↦
-              let e = rest_is R _ _ _ _ d.is in
-              let low = d.lower nz in
-              let same : size (R.add (rows i w) (R.neg (R.mul d.quotient (u w)))) ≡ size d.rest = ap size e in
-              absurd (less (n + suc i) (λ j. R.add (rows i j) (R.neg (R.mul d.quotient (u j))))
-              (span_minus R (n + suc i) rows (rows i) (λ j. R.mul d.quotient (u j))
-              (span_row R (n + suc i) rows i (omega arith))
-              (span_scale R (n + suc i) rows d.quotient u (span_more R n (n + suc i) rows u (omega arith) s)))
-              (λ z. nz (sym e ∙ z)) (omega (arith, l, low, same)))
-        ])
-
     smaller : (b n : ℕ) (u : ℕ → M) → Spans R n rows u → u w ≢ R.zero → size (u w) ≤ b → ⊥
-    smaller zero = smaller_at zero (λ n u s ne l. absurd (omega arith))
-    smaller (suc b) = smaller_at (suc b) (λ n u s ne l. smaller b n u s ne (omega arith))
+    smaller zero n u s ne l = ne (h.sizes.empty (u w) (omega arith))
+    smaller (suc b) n u s ne l = none_left n u s ne (λ i. elim ((domain R size h).decided (rest n u s ne i w)) [
+      | inl z ↦ z
+      | inr nz ↦
+          let low = (part n u s ne i).lower in
+          let same : size (rest n u s ne i w) ≡ size (part n u s ne i).rest = ap size (rest_last n u s ne i) in
+          absurd (smaller b (n + suc i) (rest n u s ne i) (spans_rest n u s ne (n + suc i) i (omega arith) (omega arith)) nz (omega (arith, l, low, same)))
+    ])
 
     last_zero : (i : ℕ) → rows i w ≡ R.zero
-    last_zero i = elim (h.domain.decided (rows i w)) [
+    last_zero i = elim ((domain R size h).decided (rows i w)) [
       | inl z ↦ z
       | inr ne ↦ absurd (smaller (size (rows i w)) (suc i) (rows i) (span_row R (suc i) rows i (omega arith)) ne (omega arith))
     ]
 
-    one_place_less : ⊥
-    one_place_less = ih rows
-        (λ i j l. elim (same_or_other j w) [
-          | inl e ↦ ap (rows i) e ∙ last_zero i
-          | inr apart ↦ past i j (omega (arith, l, apart))
-        ])
-        new
-
   -- Not every row is new.
   pub some_row_depends : (w : ℕ) (rows : ℕ → ℕ → M) → ((i j : ℕ) → w ≤ j → rows i j ≡ R.zero) → ((k : ℕ) → Spans R k rows (rows k) → ⊥) → ⊥
   some_row_depends zero rows past new = new 0 (span_zero R 0 rows (rows 0) (λ j. past 0 j (omega arith)))
-  some_row_depends (suc w) rows past new = one_place_less w rows past new (some_row_depends w)
+  some_row_depends (suc w) rows past new =
+      some_row_depends w rows (narrow w rows past new (some_row_depends w) rows past (last_zero w rows past new (some_row_depends w))) new

@@ -1,25 +1,19 @@
--- Rows of bounded width over a Euclidean ring have a least relation. Row after row, either it depends on those
--- before it up to a factor, or it is free of them at one more place.
-use Rattle.std.proofs.Common.{◌≡◌, ◌≢◌, ℕ, zero, suc, ◌+◌, ◌<◌, ◌≤◌, ◌⊎◌, inl, inr, sym, ◌∙◌, ap, subst, arith}
+-- Rows of bounded width over a Euclidean ring have a least relation. It is found by elimination, place after
+-- place: the first row either is zero, or clears one place of all others.
+use Rattle.std.proofs.Common.{◌≡◌, ◌≢◌, ℕ, zero, suc, ◌≤◌, inl, inr, refl, sym, ◌∙◌, ap, ap₂, arith}
 use Rattle.std.proofs.lemmas.Bool.{cases_lt}
-use Rattle.ring_core.proofs.Carrier.{RingOn, mul_zero, zero_mul, neg_mul, minus_same}
-use Rattle.linear_algebra.specs.steps.Slots.{beside}
-use Rattle.linear_algebra.proofs.Augment.{beside_low, beside_past}
-use Rattle.linear_algebra.proofs.Sums.{combine, total_same, total_zero, combine_same, combine_scale, same_or_other}
-use Rattle.linear_algebra.proofs.Dependent.{IsDomain, Dependence, dependence}
-use Rattle.relation_theory.proofs.Euclid.{IsEuclidean, zero_product}
-use Rattle.relation_theory.proofs.Relations.{IsRel, rel_add, rel_scale}
+use Rattle.ring_core.proofs.Carrier.{RingOn, add_zero, zero_mul, mul_zero, mul_neg, neg_mul, neg_only}
+use Rattle.ring_core.proofs.Series.{total_first}
+use Rattle.linear_algebra.proofs.Sums.{combine, total_same, total_zero, total_add, total_right, combine_scale}
+use Rattle.linear_algebra.proofs.Spans.{minus_self}
+use Rattle.linear_algebra.proofs.Dependent.{IsDomain, find_nonzero, without, without_after, without_covers}
+use mathlib.Core.Path.{fun_ext}
+use Rattle.finite_ring.proofs.Powers.{mul_swap}
+use Rattle.relation_theory.proofs.Euclid.{IsEuclidean, domain, zero_product}
+use Rattle.relation_theory.proofs.Gauss.{at_each}
+use Rattle.relation_theory.proofs.Relations.{IsRel, before}
 use Rattle.relation_theory.proofs.Least.{IsLeast}
-use Rattle.relation_theory.proofs.Bases.{rel_less}
 use Rattle.relation_theory.proofs.Content.{primitive, primitive_least}
-
--- The rows at the places `columns 0, .., columns (d - 1)`.
-abbrev restricted : {M : Type 0} → RingOn M → (ℕ → ℕ → M) → ℕ → (ℕ → ℕ) → ℕ → ℕ → M
-restricted R rows d columns i = beside d (λ j. rows i (columns j)) (λ _. R.zero)
-
--- The first `d` rows have no relation at these places.
-abbrev AreFree : {M : Type 0} → RingOn M → (ℕ → ℕ → M) → ℕ → (ℕ → ℕ) → Type 0
-AreFree {M} R rows d columns = (c : ℕ → M) → IsRel R (restricted R rows d columns) d c → (i : ℕ) → c i ≡ R.zero
 
 -- A relation of `count + 1` rows whose top isn't zero, where `count` rows have none.
 pub record FirstDependence {M : Type 0} (R : RingOn M) (rows : ℕ → ℕ → M) : Type 0 where
@@ -30,139 +24,110 @@ pub record FirstDependence {M : Type 0} (R : RingOn M) (rows : ℕ → ℕ → M
   pub none : (c : ℕ → M) → IsRel R rows count c → (i : ℕ) → c i ≡ R.zero
 
 module _ {M : Type 0} (R : RingOn M) (h : IsDomain R) where
-  -- some member below `n` isn't zero, or all are
-  nonzero_below : (n : ℕ) (x : ℕ → M) → ((q : ℕ) × (x q ≢ R.zero)) ⊎ ((q : ℕ) → q < n → x q ≡ R.zero)
-  nonzero_below zero x = inr (λ q l. absurd (omega arith))
-  nonzero_below (suc n) x = elim (h.decided (x n)) [
-    | inr ne ↦ inl (n, ne)
-    | inl z ↦ elim (nonzero_below n x) [
-      | inl s ↦ inl s
-      | inr all ↦ inr (λ q l. elim (same_or_other q n) [
-        | inl e ↦ ap x e ∙ z
-        | inr ne ↦ all q (omega (arith, l, ne))
-      ])
+  zero_row : (rows : ℕ → ℕ → M) → ((j : ℕ) → rows 0 j ≡ R.zero) → FirstDependence R rows
+  zero_row rows z = record {
+    count = 0;
+    by = before R.one (λ _. R.zero);
+    relation = record {
+      past = at_each (λ i. 1 ≤ i → before R.one (λ _. R.zero) i ≡ R.zero) (λ l. absurd (omega arith)) (λ i l. refl);
+      is = λ j. R.zero_add _ ∙ R.one_mul (rows 0 j) ∙ z j;
+    };
+    top = h.one_ne_zero;
+    none = λ c s i. s.past i (omega arith);
+  }
+
+  module _ (rows : ℕ → ℕ → M) (q : ℕ) (ne : rows 0 q ≢ R.zero) where
+    -- the other rows times the member of row 0 at `q`, with zero there
+    cleared : ℕ → ℕ → M
+    cleared i j = R.add (R.mul (rows 0 q) (rows (suc i) j)) (R.neg (R.mul (rows (suc i) q) (rows 0 j)))
+
+    -- a combination of them, as one of the rows
+    raised : ℕ → (ℕ → M) → ℕ → M
+    raised n c = before (R.neg (combine R n c (λ i. rows (suc i)) q)) (λ i. R.mul (rows 0 q) (c i))
+
+    combine_cleared : (n : ℕ) (c : ℕ → M) (j : ℕ) → combine R (suc n) (raised n c) rows j ≡ combine R n c cleared j
+    unfolding cleared raised
+    combine_cleared n c j =
+        total_first R n (λ i. R.mul (raised n c i) (rows i j)) ∙ R.add_comm _ _
+        ∙ ap (R.add _)
+        (neg_mul R _ (rows 0 j) ∙ sym (mul_neg R _ (rows 0 j)) ∙ sym (total_right R n (R.neg (rows 0 j)) (λ i. R.mul (c i) (rows (suc i) q))))
+        ∙ sym (total_add R n _ _)
+        ∙ total_same R n _ _ (λ i _.
+        ap₂ R.add (R.mul_assoc (rows 0 q) (c i) (rows (suc i) j) ∙ mul_swap R h.mul_comm (rows 0 q) (c i) (rows (suc i) j))
+        (R.mul_assoc (c i) (rows (suc i) q) (R.neg (rows 0 j)) ∙ ap (R.mul (c i)) (mul_neg R (rows (suc i) q) (rows 0 j)))
+        ∙ sym (R.mul_add (c i) _ _))
+
+    cleared_past : (i j : ℕ) → rows (suc i) j ≡ R.zero → rows 0 j ≡ R.zero → cleared i j ≡ R.zero
+    unfolding cleared
+    cleared_past i j e f =
+        minus_self R _ _ (ap (R.mul (rows 0 q)) e ∙ mul_zero R _ ∙ sym (ap (R.mul (rows (suc i) q)) f ∙ mul_zero R _))
+
+    -- a relation of the cleared rows at the places other than `q`
+    all_places : (n : ℕ) (c : ℕ → M) → IsRel R (λ i j. cleared i (without q j)) n c → (j : ℕ) → combine R n c cleared j ≡ R.zero
+    unfolding cleared
+    all_places n c s j = elim (without_covers q j) [
+      | inl e ↦ total_zero R n _ (λ i _. ap (R.mul (c i)) (ap (cleared i) e ∙ minus_self R _ _ (h.mul_comm (rows 0 q) (rows (suc i) q))) ∙ mul_zero R (c i))
+      | inr k ↦ ap (combine R n c cleared) (sym k.1) ∙ s.is k.0
     ]
-  ]
 
-  module _ (rows : ℕ → ℕ → M) where
-    -- a relation at all places is one at some
-    restrict : (n d : ℕ) (columns : ℕ → ℕ) (c : ℕ → M) → IsRel R rows n c → IsRel R (restricted R rows d columns) n c
-    restrict n d columns c s = record {
-      past = s.past;
-      is = λ j. elim (cases_lt j d) [
-        | inl l ↦ total_same R n _ (λ i. R.mul (c i) (rows i (columns j))) (λ i _. ap (R.mul (c i)) (beside_low d (λ j. rows i (columns j)) (λ _. R.zero) j l)) ∙ s.is (columns j)
-        | inr l ↦ total_zero R n _ (λ i _. ap (R.mul (c i)) (beside_past d (λ j. rows i (columns j)) (λ _. R.zero) j l) ∙ mul_zero R (c i))
-      ];
-    }
+    -- a relation without its first member
+    module _ (n : ℕ) (c : ℕ → M) (s : IsRel R rows (suc n) c) where
+      tail : ℕ → M
+      tail i = c (suc i)
 
-    module _ (d : ℕ) (columns : ℕ → ℕ) (free : AreFree R rows d columns) where
-      abbrev v : ℕ → ℕ → M
-      v = restricted R rows d columns
+      scaled : (i : ℕ) → raised n tail i ≡ R.mul (rows 0 q) (c i)
+      unfolding raised tail
+      scaled = at_each _
+          (sym (neg_only R (combine R n (λ i. c (suc i)) (λ i. rows (suc i)) q) (R.mul (rows 0 q) (c 0))
+          (R.add_comm _ _ ∙ ap₂ R.add (h.mul_comm (rows 0 q) (c 0)) refl ∙ sym (total_first R n (λ i. R.mul (c i) (rows i q))) ∙ s.is q)))
+          (λ i. refl)
 
-      -- one row more than places
-      s : Dependence R (suc d) (restricted R rows d columns)
-      s = dependence R h (suc d) d v (omega arith) (λ i _ j l. beside_past d (λ j. rows i (columns j)) (λ _. R.zero) j l)
-
-      cut : ℕ → M
-      cut = beside (suc d) s.by (λ _. R.zero)
-
-      cut_is : IsRel R (restricted R rows d columns) (suc d) cut
-      unfolding cut
-      cut_is = record {
-        past = λ i l. beside_past (suc d) s.by (λ _. R.zero) i l;
-        is = λ j. combine_same R (suc d) cut s.by v j (beside_low (suc d) s.by (λ _. R.zero)) ∙ s.is j;
+      tail_relation : IsRel R (λ i j. cleared i (without q j)) n tail
+      unfolding tail
+      tail_relation = record {
+        past = λ i l. s.past (suc i) (omega arith);
+        is = λ j.
+            sym (combine_cleared n tail (without q j)) ∙ ap (λ t. combine R (suc n) t rows (without q j)) (fun_ext scaled)
+            ∙ combine_scale R (suc n) (rows 0 q) c rows (without q j) ∙ ap (R.mul (rows 0 q)) (s.is (without q j)) ∙ mul_zero R (rows 0 q);
       }
 
-      cut_top : cut d ≢ R.zero
-      unfolding cut
-      cut_top e = s.nonzero (sym (beside_low (suc d) s.by (λ _. R.zero) s.at s.within) ∙ free cut (rel_less R h v d cut cut_is e) s.at)
+      first_zero : ((i : ℕ) → c (suc i) ≡ R.zero) → c 0 ≡ R.zero
+      first_zero e =
+          zero_product R h (rows 0 q) (c 0) ne
+          (h.mul_comm (rows 0 q) (c 0)
+          ∙ sym (total_first R n (λ i. R.mul (c i) (rows i q))
+          ∙ ap (R.add _) (total_zero R n _ (λ i _. ap (λ t. R.mul t (rows (suc i) q)) (e i) ∙ zero_mul R _)) ∙ add_zero R _)
+          ∙ s.is q)
 
-      module _ (q : ℕ) (ne : combine R (suc d) cut rows q ≢ R.zero) where
-        more : ℕ → ℕ
-        more = beside d columns (λ _. q)
+    with_first : FirstDependence R (λ i j. cleared i (without q j)) → FirstDependence R rows
+    unfolding raised tail
+    with_first s = record {
+      count = suc s.count;
+      by = raised (suc s.count) s.by;
+      relation = record {
+        past = at_each (λ i. suc (suc s.count) ≤ i → raised (suc s.count) s.by i ≡ R.zero) (λ l. absurd (omega arith))
+            (λ i l. ap (R.mul (rows 0 q)) (s.relation.past i (omega arith)) ∙ mul_zero R (rows 0 q));
+        is = λ j. combine_cleared (suc s.count) s.by j ∙ all_places (suc s.count) s.by s.relation j;
+      };
+      top = h.product (rows 0 q) (s.by s.count) ne s.top;
+      none = λ c t.
+          let later = s.none (tail s.count c t) (tail_relation s.count c t) in
+          at_each (λ i. c i ≡ R.zero) (first_zero s.count c t later) later;
+    }
 
-        fewer : (e : ℕ → M) → IsRel R (restricted R rows (suc d) more) (suc d) e → IsRel R (restricted R rows d columns) (suc d) e
-        unfolding more
-        fewer e t = record {
-          past = t.past;
-          is = λ j. elim (cases_lt j d) [
-            | inl l ↦
-                total_same R (suc d) _ (λ i. R.mul (e i) (restricted R rows (suc d) more i j)) (λ i _. ap (R.mul (e i))
-                (beside_low d (λ j. rows i (columns j)) (λ _. R.zero) j l ∙ ap (rows i) (sym (beside_low d columns (λ _. q) j l))
-                ∙ sym (beside_low (suc d) (λ j. rows i (more j)) (λ _. R.zero) j (omega (arith, l))))) ∙ t.is j
-            | inr l ↦ total_zero R (suc d) _ (λ i _. ap (R.mul (e i)) (beside_past d (λ j. rows i (columns j)) (λ _. R.zero) j l) ∙ mul_zero R (e i))
-          ];
-        }
-
-        -- at the new place too
-        last : (e : ℕ → M) → IsRel R (restricted R rows (suc d) more) (suc d) e → combine R (suc d) e rows q ≡ R.zero
-        unfolding more
-        last e t =
-            total_same R (suc d) _ (λ i. R.mul (e i) (restricted R rows (suc d) more i d)) (λ i _. ap (R.mul (e i))
-            (ap (rows i) (sym (beside_past d columns (λ _. q) d (omega arith))) ∙ sym (beside_low (suc d) (λ j. rows i (more j)) (λ _. R.zero) d (omega arith)))) ∙ t.is d
-
-        proportional : (e : ℕ → M) → IsRel R (restricted R rows (suc d) more) (suc d) e → (i : ℕ) → R.mul (cut d) (e i) ≡ R.mul (e d) (cut i)
-        proportional e t i =
-            minus_same R _ _
-            (ap (R.add (R.mul (cut d) (e i))) (sym (neg_mul R (e d) (cut i)))
-            ∙ free apart (rel_less R h v d apart both (ap (R.add (R.mul (cut d) (e d))) (neg_mul R (e d) (cut d) ∙ ap R.neg (h.mul_comm (e d) (cut d))) ∙ R.add_neg _)) i)
-          where
-            apart : ℕ → M
-            apart i = R.add (R.mul (cut d) (e i)) (R.mul (R.neg (e d)) (cut i))
-
-            both : IsRel R (restricted R rows d columns) (suc d) apart
-            both = rel_add R v (suc d) _ _ (rel_scale R v (suc d) (cut d) e (fewer e t)) (rel_scale R v (suc d) (R.neg (e d)) cut cut_is)
-
-        more_free : AreFree R rows (suc d) more
-        more_free e t i = zero_product R h (cut d) (e i) cut_top (proportional e t i ∙ ap (λ y. R.mul y (cut i)) top ∙ zero_mul R (cut i))
-          where
-            top : e d ≡ R.zero
-            top =
-                zero_product R h (combine R (suc d) cut rows q) (e d) ne
-                (h.mul_comm _ (e d) ∙ sym (combine_scale R (suc d) (e d) cut rows q)
-                ∙ combine_same R (suc d) (λ i. R.mul (e d) (cut i)) (λ i. R.mul (cut d) (e i)) rows q (λ i _. sym (proportional e t i))
-                ∙ combine_scale R (suc d) (cut d) e rows q ∙ ap (R.mul (cut d)) (last e t) ∙ mul_zero R (cut d))
-
-      -- one row more
-      next : (w : ℕ) → ((i j : ℕ) → w ≤ j → rows i j ≡ R.zero) → FirstDependence R rows ⊎ ((columns : ℕ → ℕ) × AreFree R rows (suc d) columns)
-      next w past = elim (nonzero_below w (combine R (suc d) cut rows)) [
-        | inl s ↦ inr (more s.0 s.1, more_free s.0 s.1)
-        | inr all ↦ inl (record {
-          count = d;
-          by = cut;
-          relation = record {
-            past = cut_is.past;
-            is = λ j. elim (cases_lt j w) [
-              | inl l ↦ all j l
-              | inr l ↦ total_zero R (suc d) _ (λ i _. ap (R.mul (cut i)) (past i j l) ∙ mul_zero R (cut i))
-            ];
-          };
-          top = cut_top;
-          none = λ c t. free c (restrict d d columns c t);
-        })
-      ]
-
-    module _ (w : ℕ) (past : (i j : ℕ) → w ≤ j → rows i j ≡ R.zero) where
-      -- more rows than places aren't free
-      too_many : (columns : ℕ → ℕ) → AreFree R rows (suc w) columns → ⊥
-      too_many columns free =
-          let s = dependence R h (suc w) w rows (omega arith) (λ i _. past i) in
-          let cut : ℕ → M = beside (suc w) s.by (λ _. R.zero) in
-          s.nonzero (sym (beside_low (suc w) s.by (λ _. R.zero) s.at s.within) ∙ free cut (restrict (suc w) (suc w) columns cut (record {
-            past = λ i l. beside_past (suc w) s.by (λ _. R.zero) i l;
-            is = λ j. combine_same R (suc w) cut s.by rows j (beside_low (suc w) s.by (λ _. R.zero)) ∙ s.is j;
-          })) s.at)
-
-      search_from : (n d : ℕ) (columns : ℕ → ℕ) → AreFree R rows d columns → d + n ≡ suc w → FirstDependence R rows
-      search_from zero d columns free e =
-          absurd (too_many columns (subst (λ m. AreFree R rows m columns) (let z : d ≡ suc w = omega (arith, e) in z) free))
-      search_from (suc n) d columns free e = elim (next d columns free w past) [
-        | inl found ↦ found
-        | inr s ↦ search_from n (suc d) s.0 s.1 (omega (arith, e))
-      ]
-
-      pub first_dependence : FirstDependence R rows
-      first_dependence = search_from (suc w) 0 (λ j. j) (λ c t i. t.past i (omega arith)) (omega arith)
+  pub first_dependence : (w : ℕ) (rows : ℕ → ℕ → M) → ((i j : ℕ) → w ≤ j → rows i j ≡ R.zero) → FirstDependence R rows
+  first_dependence zero rows past = zero_row rows (λ j. past 0 j (omega arith))
+  first_dependence (suc w) rows past = elim (find_nonzero R h (suc w) (rows 0)) [
+    | inl s ↦ with_first rows s.0 s.2
+        (first_dependence w (λ i j. cleared rows s.0 s.2 i (without s.0 j)) (λ i j l.
+        let e = without_after s.0 j (let b = s.1 in omega (arith, b, l)) in
+        let far : suc w ≤ without s.0 j = omega (arith, e, l) in
+        cleared_past rows s.0 s.2 i (without s.0 j) (past (suc i) _ far) (past 0 _ far)))
+    | inr none ↦ zero_row rows (λ j. elim (cases_lt j (suc w)) [
+      | inl l ↦ none j l
+      | inr l ↦ past 0 j l
+    ])
+  ]
 
 -- A least relation of rows of bounded width.
 pub record LeastOfRows {M : Type 0} (R : RingOn M) (rows : ℕ → ℕ → M) : Type 0 where
@@ -172,7 +137,7 @@ pub record LeastOfRows {M : Type 0} (R : RingOn M) (rows : ℕ → ℕ → M) : 
 
 pub least_of_rows : {M : Type 0} (R : RingOn M) (size : M → ℕ) → IsEuclidean R size → (w : ℕ) (rows : ℕ → ℕ → M) → ((i j : ℕ) → w ≤ j → rows i j ≡ R.zero) → LeastOfRows R rows
 least_of_rows R size h w rows past =
-    let s = first_dependence R h.domain rows w past in
+    let s = first_dependence R (domain R size h) w rows past in
     record {
       degree = s.count;
       relation = primitive R size h rows s.count s.none s.by s.relation s.top;

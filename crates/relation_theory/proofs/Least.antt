@@ -1,18 +1,16 @@
 -- The least relation between rows over a Euclidean ring is monic up to an invertible factor, where a relation
 -- moved up by one place is a relation.
-use Rattle.std.proofs.Common.{◌≡◌, ◌≢◌, ℕ, zero, suc, ◌+◌, ◌-◌, ◌<◌, ◌≤◌, inl, inr, sym, ◌∙◌, ap, ap₂, arith}
+use Rattle.std.proofs.Common.{◌≡◌, ◌≢◌, ℕ, zero, suc, ◌+◌, ◌-◌, ◌<◌, ◌≤◌, inl, inr, refl, sym, ◌∙◌, ap, ap₂, arith}
 use mathlib.Core.Path.{fun_ext}
 use Rattle.std.proofs.lemmas.Bool.{cases_lt}
-use Rattle.ring_core.proofs.Carrier.{RingOn, add_zero, mul_zero, zero_mul, neg_add, neg_mul}
-use Rattle.ring_core.proofs.Series.{conv-scale}
-use Rattle.linear_algebra.specs.steps.Slots.{beside}
-use Rattle.linear_algebra.proofs.Augment.{beside_low, beside_past}
-use Rattle.linear_algebra.proofs.Sums.{combine, total_rest, combine_same, combine_neg, combine_scale}
-use Rattle.linear_algebra.proofs.Spans.{Spans}
-use Rattle.relation_theory.proofs.Euclid.{IsEuclidean, Grows, IsMultiple, multiple_as, multiple_through, multiple_mul, zero_product, cancel, cancel_right, prime_or, grows_no_unit}
-use Rattle.relation_theory.proofs.Gauss.{cauchy_product, product_top, gauss}
-use Rattle.relation_theory.proofs.Relations.{IsRel, rel_more, rel_as, rel_add, rel_scale, rel_product}
-use Rattle.relation_theory.proofs.PseudoDivision.{pseudo_divide}
+use Rattle.ring_core.proofs.Carrier.{RingOn, mul_zero, zero_mul, neg_mul}
+use Rattle.ring_core.proofs.Series.{conv-add_left, conv-scale}
+use Rattle.linear_algebra.proofs.Sums.{combine, combine_scale}
+use Rattle.linear_algebra.proofs.Spans.{Spans, minus_plus}
+use Rattle.linear_algebra.proofs.Augment.{relation_of, relation_at, relation_above, relation_is}
+use Rattle.relation_theory.proofs.Euclid.{IsEuclidean, IsMultiple, multiple_as, multiple_through, zero_product, cancel, cancel_right, some_size, sized_nonzero, domain, unit_size, unit_inverse}
+use Rattle.relation_theory.proofs.Gauss.{cauchy_product, product_zero, product_top, gauss}
+use Rattle.relation_theory.proofs.Relations.{IsRel, one_at, one_at_same, one_at_past, rel_more, rel_apart, rel_raised}
 use Rattle.relation_theory.proofs.Chain.{some_row_depends}
 
 -- A relation of `d + 1` members with a top that isn't zero: there is none with fewer, and each other one with
@@ -23,158 +21,127 @@ pub record IsLeast {M : Type 0} (R : RingOn M) (rows : ℕ → ℕ → M) (d : �
   pub none : (c : ℕ → M) → IsRel R rows d c → (i : ℕ) → c i ≡ R.zero
   pub only : (c : ℕ → M) → IsRel R rows (suc d) c → (u : M) × ((i : ℕ) → c i ≡ R.mul u (f i))
 
--- A relation of `m + 1` members with top one.
-pub record IsMonicRelation {M : Type 0} (R : RingOn M) (rows : ℕ → ℕ → M) (m : ℕ) (c : ℕ → M) : Type 0 where
-  pub relation : IsRel R rows (suc m) c
-  pub top : c m ≡ R.one
-
-module _ {M : Type 0} (R : RingOn M) (rows : ℕ → ℕ → M) where
-  first_one : ℕ → M
-  first_one zero = R.one
-  first_one (suc i) = R.zero
-
-  -- a row that is a combination of those before it
-  monic_of : (k : ℕ) → Spans R k rows (rows k) → (c : ℕ → M) × IsMonicRelation R rows k c
-  unfolding first_one
-  monic_of k s = (
-    c,
-    record {
-      relation = record {
-        past = λ i l.
-            let place : i - k ≡ suc (i - suc k) = omega (arith, l) in
-            beside_past k low first_one i (omega (arith, l)) ∙ ap first_one place;
-        is = λ j.
-            ap₂ R.add
-            (combine_same R k c low rows j (beside_low k low first_one) ∙ combine_neg R k s.by rows j ∙ ap R.neg (sym (s.is j)))
-            (ap (λ t. R.mul t (rows k j)) top ∙ R.one_mul (rows k j))
-            ∙ neg_add R (rows k j);
-      };
-      top = top;
-    },
-  )
-    where
-      low : ℕ → M
-      low i = R.neg (s.by i)
-
-      c : ℕ → M
-      c = beside k low first_one
-
-      top : c k ≡ R.one
-      top = let e : k - k ≡ 0 = omega arith in beside_past k low first_one k (omega arith) ∙ ap first_one e
+-- `factor c` is `quotient f`.
+record IsCleared {M : Type 0} (R : RingOn M) (k : ℕ) (c f : ℕ → M) : Type 0 where
+  factor : M
+  quotient : ℕ → M
+  nonzero : factor ≢ R.zero
+  bound : (i : ℕ) → k ≤ i → quotient i ≡ R.zero
+  is : (i : ℕ) → R.mul factor (c i) ≡ cauchy_product R quotient f i
 
 module _ {M : Type 0} (R : RingOn M) (size : M → ℕ) (h : IsEuclidean R size) (rows : ℕ → ℕ → M)
     (moves : (n : ℕ) (c : ℕ → M) → IsRel R rows n c → (j : ℕ) → combine R n c (λ i. rows (suc i)) j ≡ R.zero)
     (d : ℕ) (f : ℕ → M) (least : IsLeast R rows d f) where
-  -- a multiple of a relation is one only where that is one
-  rel_cancel : (n : ℕ) (p : M) (c : ℕ → M) → p ≢ R.zero → IsRel R rows n (λ i. R.mul p (c i)) → IsRel R rows n c
-  rel_cancel n p c np s = record {
-    past = λ i l. zero_product R h.domain p (c i) np (s.past i l);
-    is = λ j. zero_product R h.domain p _ np (sym (combine_scale R n p c rows j) ∙ s.is j);
-  }
+  abbrev past : (i : ℕ) → d < i → f i ≡ R.zero
+  past i l = least.relation.past i (omega arith)
+
+  -- x a = x (a - b) + x b
+  apart_sum : (x a b c : M) → R.mul x a ≡ R.add (R.mul x (R.add a (R.mul (R.neg b) c))) (R.mul (R.mul x b) c)
+  apart_sum x a b c =
+      ap (R.mul x) (sym (ap (λ t. R.add (R.add a t) (R.mul b c)) (neg_mul R b c) ∙ minus_plus R a (R.mul b c)))
+      ∙ R.mul_add x _ (R.mul b c) ∙ ap (R.add _) (sym (R.mul_assoc x b c))
 
   -- each relation times some element is a multiple of the least one
-  multiple_of_least : (k : ℕ) (c : ℕ → M) → IsRel R rows (d + k) c → (a : M) × (g : ℕ → M) × (a ≢ R.zero) × ((i : ℕ) → k ≤ i → g i ≡ R.zero) × ((i : ℕ) → R.mul a (c i) ≡ cauchy_product R g f i)
-  multiple_of_least k c s =
-      let q = pseudo_divide R h.domain d f least.top (λ i l. least.relation.past i (omega arith)) k c s.past in
-      let parts : IsRel R rows (suc d + k) (λ i. R.add (R.mul q.factor (c i)) (R.mul (R.neg R.one) (cauchy_product R q.quotient f i))) =
-      rel_add R rows (suc d + k) _ _ (rel_more R rows (d + k) (suc d + k) _ (omega arith) (rel_scale R rows (d + k) q.factor c s))
-      (rel_scale R rows (suc d + k) (R.neg R.one) (cauchy_product R q.quotient f) (rel_product R rows moves k (suc d) q.quotient f q.bound least.relation)) in
-      let rest_is : (i : ℕ) → q.rest i ≡ R.add (R.mul q.factor (c i)) (R.mul (R.neg R.one) (cauchy_product R q.quotient f i)) = λ i.
-      sym (ap₂ R.add (q.is i) (neg_mul R R.one _ ∙ ap R.neg (R.one_mul _)) ∙ R.add_comm _ _ ∙ sym (R.add_assoc _ _ _)
-      ∙ ap (λ t. R.add t (q.rest i)) (neg_add R _) ∙ R.zero_add (q.rest i)) in
-      let zeros : (i : ℕ) → q.rest i ≡ R.zero = least.none q.rest (lower (suc d + k) q.rest q.below (rel_as R rows (suc d + k) _ q.rest rest_is parts)) in
-      (q.factor, q.quotient, q.nonzero, q.bound, λ i. q.is i ∙ ap (R.add _) (zeros i) ∙ add_zero R _)
-    where
-      lower : (n : ℕ) (c : ℕ → M) → ((i : ℕ) → d ≤ i → c i ≡ R.zero) → IsRel R rows n c → IsRel R rows d c
-      lower n c past s = record {
-        past = past;
-        is = λ j. elim (cases_lt n d) [
-          | inl l ↦ (rel_more R rows n d c (omega arith) s).is j
-          | inr l ↦ sym (total_rest R d n _ l (λ i a b. ap (λ t. R.mul t (rows i j)) (past i a) ∙ zero_mul R (rows i j))) ∙ s.is j
-        ];
+  cleared : (k : ℕ) (c : ℕ → M) → IsRel R rows (k + d) c → IsCleared R k c f
+  cleared zero c s = record {
+    factor = R.one;
+    quotient = λ i. R.zero;
+    nonzero = (domain R size h).one_ne_zero;
+    bound = λ i l. refl;
+    is = λ i. R.one_mul (c i) ∙ least.none c (rel_more R rows (0 + d) d c (omega arith) s) i ∙ sym (product_zero R i (λ j. R.zero) f (λ j. refl));
+  }
+  cleared (suc k) c s =
+      let n = k + d in
+      let e : ℕ → M = cauchy_product R (one_at R k) f in
+      let more : IsRel R rows (suc n) e = rel_more R rows (k + suc d) (suc n) e (omega arith) (rel_raised R rows moves k (suc d) f least.relation) in
+      let t = cleared k _ (rel_apart R rows h.mul_comm n c e (rel_more R rows (suc k + d) (suc n) c (omega arith) s) more) in
+      let top : e n ≡ f d = product_top R k d n (one_at R k) f refl (one_at_past R k) past ∙ ap (λ y. R.mul y (f d)) (one_at_same R k) ∙ R.one_mul (f d) in
+      let last = R.mul t.factor (c n) in
+      record {
+        factor = R.mul t.factor (e n);
+        quotient = λ i. R.add (t.quotient i) (R.mul last (one_at R k i));
+        nonzero = (domain R size h).product t.factor (e n) t.nonzero (λ z. least.top (sym top ∙ z));
+        bound = λ i l.
+            ap₂ R.add (t.bound i (omega arith)) (ap (R.mul last) (one_at_past R k i (omega arith)) ∙ mul_zero R last) ∙ R.zero_add R.zero;
+        is = λ i.
+            R.mul_assoc t.factor (e n) (c i) ∙ apart_sum t.factor (R.mul (e n) (c i)) (c n) (e i)
+            ∙ ap₂ R.add (t.is i) (sym (conv-scale R (λ x. x) i last (one_at R k) f))
+            ∙ sym (conv-add_left R (λ x. x) i t.quotient (λ j. R.mul last (one_at R k j)) f);
       }
 
-  -- p divides the top of the least relation, and is a multiple of no smaller element but the invertible ones
-  module _ (p : M) (np : p ≢ R.zero) (grows : Grows R size p) (divides : IsMultiple R p (f d))
-      (prime : (x : M) → IsMultiple R x p → Grows R size x → size x < size p → ⊥)
-      (k : ℕ) (c : ℕ → M) (monic : c (d + k) ≡ R.one) where
-    not_all : ((i : ℕ) → IsMultiple R p (f i)) → ⊥
-    not_all all =
-        let part : ℕ → M = λ i. (all i).factor in
-        let is : (i : ℕ) → f i ≡ R.mul p (part i) = λ i. (all i).is ∙ h.domain.mul_comm (part i) p in
-        let again = least.only part (rel_cancel (suc d) p part np (rel_as R rows (suc d) f _ (λ i. sym (is i)) least.relation)) in
-        grows_no_unit R size h p again.0 grows
-        (cancel_right R h.domain (f d) (R.mul p again.0) R.one least.top
-        (R.mul_assoc p again.0 (f d) ∙ ap (R.mul p) (sym (again.1 d)) ∙ sym (is d) ∙ sym (R.one_mul (f d))))
+  -- not all members have a common divisor but the invertible ones
+  not_all : (p : M) → 1 < size p → ((i : ℕ) → IsMultiple R p (f i)) → ⊥
+  not_all p large all =
+      let one : size p ≡ 1 = unit_size R size h p again.0 (h.mul_comm p again.0 ∙ cancel_right R (domain R size h) (f d) _ R.one least.top
+      (R.mul_assoc again.0 p (f d) ∙ ap (R.mul again.0) (h.mul_comm p (f d)) ∙ sym (R.mul_assoc again.0 (f d) p) ∙ ap (λ t. R.mul t p) (sym (again.1 d)) ∙ sym (all d).is ∙ sym (R.one_mul (f d)))) in
+      omega (arith, one, large)
+    where
+      np : p ≢ R.zero
+      np = sized_nonzero R size h p (omega (arith, large))
 
-    -- a multiple of the monic relation that is one of the least relation: its factor has p any number of times
-    descend_at : (a : M) (g : ℕ → M) → a ≢ R.zero → ((i : ℕ) → k < i → g i ≡ R.zero) → ((i : ℕ) → R.mul a (c i) ≡ cauchy_product R g f i)
-        → ((b : M) (t : ℕ → M) → size b < size a → b ≢ R.zero → ((i : ℕ) → k < i → t i ≡ R.zero) → ((i : ℕ) → R.mul b (c i) ≡ cauchy_product R t f i) → ⊥) → ⊥
-    descend_at a g na past is less =
-        elim (gauss R h.domain p (prime_or R size h p np prime) (suc d) g f least.relation.past
-        (λ i. multiple_as R p (R.mul a (c i)) _ (sym (is i)) (multiple_as R p (R.mul (c i) a) _ (h.domain.mul_comm a (c i)) (multiple_mul R p a (c i) factor)))) [
-          | inl all ↦ not_all all
-          | inr all ↦ less factor.factor (λ i. (all i).factor) shorter nonzero
-              (λ i l. zero_product R h.domain p _ np (h.domain.mul_comm p _ ∙ sym (all i).is ∙ past i l))
-              (λ i. cancel R h.domain p _ _ np
-              (sym (R.mul_assoc p factor.factor (c i)) ∙ ap (λ t. R.mul t (c i)) (sym divided) ∙ is i
-              ∙ ap (λ t. cauchy_product R t f i) (fun_ext (λ j. (all j).is ∙ h.domain.mul_comm (all j).factor p))
+      is : (i : ℕ) → R.mul p (all i).factor ≡ f i
+      is i = h.mul_comm p (all i).factor ∙ sym (all i).is
+
+      again : (u : M) × ((i : ℕ) → (all i).factor ≡ R.mul u (f i))
+      again = least.only (λ i. (all i).factor) (record {
+        past = λ i l. zero_product R (domain R size h) p _ np (is i ∙ least.relation.past i l);
+        is = λ j. zero_product R (domain R size h) p _ np
+            (sym (combine_scale R (suc d) p (λ i. (all i).factor) rows j)
+            ∙ ap (λ t. combine R (suc d) t rows j) (fun_ext is) ∙ least.relation.is j);
+      })
+
+  -- A monic relation, and the top of the least one not invertible: the factor that makes the first a multiple of
+  -- the other can be divided by a divisor of that top again and again.
+  module _ (k : ℕ) (c : ℕ → M) (monic : c (k + d) ≡ R.one) (large : 1 < size (f d)) where
+    descend : (n : ℕ) (a : M) (g : ℕ → M) → size a ≤ n → a ≢ R.zero → ((i : ℕ) → k < i → g i ≡ R.zero) → ((i : ℕ) → R.mul a (c i) ≡ cauchy_product R g f i) → ⊥
+    descend zero a g l na bound is = na (h.sizes.empty a (omega arith))
+    descend (suc n) a g l na bound is =
+        let top : a ≡ R.mul (g k) (f d) = sym (R.mul_one a) ∙ ap (R.mul a) (sym monic) ∙ is (k + d) ∙ product_top R k d (k + d) g f refl bound past in
+        let of_a : IsMultiple R (f d) a = record { factor = g k; is = top } in
+        let s = gauss R size h (suc d) (f d) g f large least.relation.past (λ i.
+        multiple_as R (f d) (R.mul a (c i)) _ (sym (is i)) (multiple_through R (f d) a _ of_a (record { factor = c i; is = h.mul_comm a (c i) }))) in
+        let p = s.divisor in
+        let np = sized_nonzero R size h p (let m = s.large in omega (arith, m)) in
+        let part = multiple_through R p (f d) a s.of of_a in
+        let less : part.factor ≢ R.zero = λ z. na (part.is ∙ ap (λ t. R.mul t p) z ∙ zero_mul R p) in
+        let sizes : size a + 1 ≡ size part.factor + size p =
+        ap (λ t. size t + 1) part.is ∙ h.sizes.product part.factor p (some_size R size h part.factor less) (some_size R size h p np) in
+        elim s.all [
+          | inr all ↦ not_all p s.large all
+          | inl all ↦
+              descend n part.factor (λ i. (all i).factor) (let m = s.large in omega (arith, l, sizes, m)) less
+              (λ i m. zero_product R (domain R size h) p _ np (h.mul_comm p _ ∙ sym (all i).is ∙ bound i m))
+              (λ i. cancel R (domain R size h) p _ _ np
+              (sym (R.mul_assoc p part.factor (c i)) ∙ ap (λ t. R.mul t (c i)) (h.mul_comm p part.factor ∙ sym part.is) ∙ is i
+              ∙ ap (λ t. cauchy_product R t f i) (fun_ext (λ j. (all j).is ∙ h.mul_comm (all j).factor p))
               ∙ conv-scale R (λ x. x) i p (λ j. (all j).factor) f))
         ]
-      where
-        factor : IsMultiple R p a
-        factor =
-            multiple_as R p (R.mul (g k) (f d)) a
-            (sym (R.mul_one a) ∙ ap (R.mul a) (sym monic) ∙ is (d + k)
-            ∙ product_top R k d (d + k) g f (omega arith) past (λ i l. least.relation.past i (omega arith)))
-            (multiple_mul R p (f d) (g k) divides)
 
-        divided : a ≡ R.mul p factor.factor
-        divided = factor.is ∙ h.domain.mul_comm factor.factor p
-
-        nonzero : factor.factor ≢ R.zero
-        nonzero z = na (divided ∙ ap (R.mul p) z ∙ mul_zero R p)
-
-        shorter : size factor.factor < size a
-        shorter = let l = grows factor.factor nonzero in let e : size a ≡ size (R.mul p factor.factor) = ap size divided in omega (arith, l, e)
-
-    descend : (n : ℕ) (a : M) (g : ℕ → M) → size a ≤ n → a ≢ R.zero → ((i : ℕ) → k < i → g i ≡ R.zero) → ((i : ℕ) → R.mul a (c i) ≡ cauchy_product R g f i) → ⊥
-    descend zero a g l na past is = descend_at a g na past is (λ b t less. absurd (omega (arith, l, less)))
-    descend (suc n) a g l na past is = descend_at a g na past is (λ b t less. descend n b t (omega (arith, l, less)))
-
-  module _ (k : ℕ) (c : ℕ → M) (relation : IsRel R rows (suc (d + k)) c) (monic : c (d + k) ≡ R.one) where
-    no_divisor_at : (p : M) → IsMultiple R p (f d) → Grows R size p → ((x : M) → IsMultiple R x (f d) → Grows R size x → size x < size p → ⊥) → ⊥
-    no_divisor_at p divides grows smaller =
-        let np : p ≢ R.zero = λ z. least.top (divides.is ∙ ap (R.mul divides.factor) z ∙ mul_zero R divides.factor) in
-        let place : suc (d + k) ≡ d + suc k = omega arith in
-        let m = multiple_of_least (suc k) c (rel_more R rows (suc (d + k)) (d + suc k) c (omega arith) relation) in
-        descend p np grows divides (λ x s. smaller x (multiple_through R x p (f d) s divides)) k c monic (size m.0) m.0 m.1 (omega arith) m.2
-        (λ i l. m.3 i (omega arith)) m.4
-
-    no_divisor : (n : ℕ) (p : M) → size p ≤ n → IsMultiple R p (f d) → Grows R size p → ⊥
-    no_divisor zero p l s g = no_divisor_at p s g (λ x _ _ less. absurd (omega (arith, l, less)))
-    no_divisor (suc n) p l s g = no_divisor_at p s g (λ x t gr less. no_divisor n x (omega (arith, l, less)) t gr)
-
-  -- the place of a monic relation
-  monic_far : (m : ℕ) (c : ℕ → M) → IsMonicRelation R rows m c → d ≤ m
-  monic_far m c s = elim (cases_lt m d) [
-    | inl l ↦ absurd (h.domain.one_ne_zero (sym s.top ∙ least.none c (rel_more R rows (suc m) d c (omega arith) s.relation) m))
-    | inr l ↦ l
+  -- a row that is a combination of those before it
+  not_large : 1 < size (f d) → (m : ℕ) → Spans R m rows (rows m) → ⊥
+  not_large large m s = elim (cases_lt m d) [
+    | inl l ↦ (domain R size h).one_ne_zero (sym monic ∙ least.none c (rel_more R rows (suc m) d c (omega arith) relation) m)
+    | inr l ↦
+        let place : m - d + d ≡ m = omega (arith, l) in
+        let t = cleared (suc (m - d)) c (rel_more R rows (suc m) (suc (m - d) + d) c (omega (arith, l)) relation) in
+        descend (m - d) c (ap c place ∙ monic) large (size t.factor) t.factor t.quotient (omega arith) t.nonzero (λ i b. t.bound i (omega (arith, b))) t.is
   ]
+    where
+      c : ℕ → M
+      c = relation_of R (suc m) rows m s.by
 
-  monic_contradicts : Grows R size (f d) → (m : ℕ) (c : ℕ → M) → IsMonicRelation R rows m c → ⊥
-  monic_contradicts grows m c s =
-      let far = monic_far m c s in
-      let k = m - d in
-      let place : m ≡ d + k = omega (arith, far) in
-      no_divisor k c (rel_more R rows (suc m) (suc (d + k)) c (omega (arith, far)) s.relation) (sym (ap c place) ∙ s.top)
-      (size (f d)) (f d) (omega arith) (record { factor = R.one; is = sym (R.one_mul (f d)) }) grows
+      monic : c m ≡ R.one
+      monic = relation_at R (suc m) rows m s.by
+
+      relation : IsRel R rows (suc m) c
+      relation = record {
+        past = λ i l. relation_above R (suc m) rows m s.by i (omega arith);
+        is = relation_is R (suc m) rows m (omega arith) s.by s.is;
+      }
 
   -- The top of the least relation is invertible.
   pub least_is_monic : (w : ℕ) → ((i j : ℕ) → w ≤ j → rows i j ≡ R.zero) → (b : M) × (R.mul (f d) b ≡ R.one)
-  least_is_monic w past = elim (h.unit_or (f d) least.top) [
-    | inl u ↦ u
-    | inr grows ↦
-        absurd (some_row_depends R size h w rows past (λ k s.
-        let m = monic_of R rows k s in monic_contradicts grows k m.0 m.1))
+  least_is_monic w far = elim (cases_lt 1 (size (f d))) [
+    | inl large ↦ absurd (some_row_depends R size h w rows far (not_large large))
+    | inr few ↦ let some = some_size R size h (f d) least.top in unit_inverse R size h (f d) (omega (arith, few, some))
   ]

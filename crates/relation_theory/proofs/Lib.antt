@@ -1,7 +1,6 @@
 pub mod Euclid
 pub mod Gauss
 pub mod Relations
-pub mod PseudoDivision
 pub mod Chain
 pub mod Least
 pub mod PolyEuclid

@@ -4,9 +4,9 @@ use Rattle.std.proofs.Common.{◌≡◌, ◌≢◌, ℕ, zero, suc, ◌<◌, ◌
 use Rattle.std.proofs.lemmas.Bool.{cases_lt}
 use Rattle.ring_core.proofs.Carrier.{RingOn, zero_mul, zero_only}
 use Rattle.ring_core.proofs.Series.{total}
-use Rattle.linear_algebra.proofs.Sums.{combine}
+use Rattle.linear_algebra.proofs.Sums.{combine, total_same, total_right}
 use Rattle.finite_ring.proofs.Powers.{power}
-use Rattle.relation_theory.proofs.Euclid.{IsEuclidean, zero_product}
+use Rattle.relation_theory.proofs.Euclid.{IsEuclidean, domain, zero_product}
 use Rattle.relation_theory.proofs.Relations.{IsRel, rel_more, rel_scale}
 use Rattle.relation_theory.proofs.Least.{IsLeast, least_is_monic}
 
@@ -37,40 +37,37 @@ module _ {M N : Type 0} (S : RingOn N) (A : RingOn M) (act : M → N) (x : N) (w
   unfolding power_rows
   power_rows_past i j l = h.past (power S x i) j l
 
-  powers_central : (a : M) (i : ℕ) → S.mul (power S x i) (act a) ≡ S.mul (act a) (power S x i)
-  powers_central a zero = S.one_mul (act a) ∙ sym (S.mul_one (act a))
-  powers_central a (suc i) =
-      S.mul_assoc (power S x i) x (act a) ∙ ap (S.mul (power S x i)) (h.central a) ∙ sym (S.mul_assoc (power S x i) (act a) x)
-      ∙ ap (λ t. S.mul t x) (powers_central a i) ∙ S.mul_assoc (act a) (power S x i) x
+  -- the coordinates of a sum
+  row_sum : (n : ℕ) (c : ℕ → M) (y : ℕ → N) (j : ℕ) → row (total S n (λ i. S.mul (y i) (act (c i)))) j ≡ combine A n c (λ i. row (y i)) j
+  row_sum zero c y j = zero_only A (row S.zero j) (sym (h.add S.zero S.zero j) ∙ ap (λ t. row t j) (S.zero_add S.zero))
+  row_sum (suc n) c y j = h.add _ _ j ∙ ap₂ A.add (row_sum n c y j) (h.scale (y n) (c n) j)
 
-  row_zero : (j : ℕ) → row S.zero j ≡ A.zero
-  row_zero j = zero_only A (row S.zero j) (sym (h.add S.zero S.zero j) ∙ ap (λ t. row t j) (S.zero_add S.zero))
+  powers_central : (a : M) (i : ℕ) → S.mul (act a) (power S x i) ≡ S.mul (power S x i) (act a)
+  powers_central a zero = S.mul_one (act a) ∙ sym (S.one_mul (act a))
+  powers_central a (suc i) =
+      sym (S.mul_assoc (act a) (power S x i) x) ∙ ap (λ t. S.mul t x) (powers_central a i)
+      ∙ S.mul_assoc (power S x i) (act a) x ∙ ap (S.mul (power S x i)) (sym (h.central a)) ∙ sym (S.mul_assoc (power S x i) x (act a))
 
   pub row_value : (n : ℕ) (c : ℕ → M) (j : ℕ) → row (power_sum S act x n c) j ≡ combine A n c power_rows j
   unfolding power_rows
-  row_value zero c j = row_zero j
-  row_value (suc n) c j =
-      h.add _ _ j
-      ∙ ap₂ A.add (row_value n c j) (ap (λ t. row t j) (sym (powers_central (c n) n)) ∙ h.scale (power S x n) (c n) j)
+  row_value n c j =
+      ap (λ t. row t j) (total_same S n _ _ (λ i _. powers_central (c i) i)) ∙ row_sum n c (power S x) j
 
   pub value_zero : (n : ℕ) (c : ℕ → M) → ((j : ℕ) → combine A n c power_rows j ≡ A.zero) → power_sum S act x n c ≡ S.zero
   value_zero n c e = h.inj _ (λ j. row_value n c j ∙ e j)
 
   pub rows_zero : (n : ℕ) (c : ℕ → M) → power_sum S act x n c ≡ S.zero → (j : ℕ) → combine A n c power_rows j ≡ A.zero
-  rows_zero n c e j = sym (row_value n c j) ∙ ap (λ t. row t j) e ∙ row_zero j
-
-  moved_value : (n : ℕ) (c : ℕ → M) (j : ℕ) → row (S.mul (power_sum S act x n c) x) j ≡ combine A n c (λ i. power_rows (suc i)) j
-  unfolding power_rows
-  moved_value zero c j = ap (λ t. row t j) (zero_mul S x) ∙ row_zero j
-  moved_value (suc n) c j =
-      ap (λ t. row t j) (S.add_mul _ _ x) ∙ h.add _ _ j
-      ∙ ap₂ A.add (moved_value n c j)
-      (ap (λ t. row t j) (S.mul_assoc (act (c n)) (power S x n) x ∙ sym (powers_central (c n) (suc n))) ∙ h.scale (power S x (suc n)) (c n) j)
+  rows_zero n c e j = sym (row_value n c j) ∙ ap (λ t. row t j) e ∙ row_sum 0 c (power S x) j
 
   -- a relation moved up by one place is a relation
   pub moves : (n : ℕ) (c : ℕ → M) → IsRel A power_rows n c → (j : ℕ) → combine A n c (λ i. power_rows (suc i)) j ≡ A.zero
+  unfolding power_rows
   moves n c s j =
-      sym (moved_value n c j) ∙ ap (λ t. row (S.mul t x) j) (value_zero n c s.is) ∙ ap (λ t. row t j) (zero_mul S x) ∙ row_zero j
+      sym (row_sum n c (λ i. power S x (suc i)) j)
+      ∙ ap (λ t. row t j)
+      (total_same S n _ _ (λ i _. sym (powers_central (c i) (suc i)) ∙ sym (S.mul_assoc (act (c i)) (power S x i) x))
+      ∙ total_right S n x _ ∙ ap (λ t. S.mul t x) (value_zero n c s.is) ∙ zero_mul S x)
+      ∙ row_sum 0 c (power S x) j
 
   module _ (size : M → ℕ) (e : IsEuclidean A size) (d : ℕ) (f : ℕ → M) (least : IsLeast A power_rows d f) where
     -- one isn't a relation
@@ -81,7 +78,7 @@ module _ {M N : Type 0} (S : RingOn N) (A : RingOn M) (act : M → N) (x : N) (w
       | inr l ↦
           let z : d ≡ 0 = omega (arith, l) in
           absurd (h.nontrivial (h.inj S.one (λ j.
-          zero_product A e.domain (f 0) (row S.one j) (λ q. least.top (ap f z ∙ q))
+          zero_product A (domain A size e) (f 0) (row S.one j) (λ q. least.top (ap f z ∙ q))
           (sym (A.zero_add _) ∙ ap (λ n. combine A (suc n) f power_rows j) (sym z) ∙ least.relation.is j))))
     ]
 
@@ -90,7 +87,7 @@ module _ {M N : Type 0} (S : RingOn N) (A : RingOn M) (act : M → N) (x : N) (w
     least_relation =
         let u = least_is_monic A size e power_rows moves d f least w power_rows_past in
         let s = rel_scale A power_rows (suc d) u.0 f least.relation in
-        (λ i. A.mul u.0 (f i), e.domain.mul_comm u.0 (f d) ∙ u.1, λ i l. s.past i (omega arith), value_zero (suc d) (λ i. A.mul u.0 (f i)) s.is)
+        (λ i. A.mul u.0 (f i), e.mul_comm u.0 (f d) ∙ u.1, λ i l. s.past i (omega arith), value_zero (suc d) (λ i. A.mul u.0 (f i)) s.is)
 
     pub least_none : (n : ℕ) (c : ℕ → M) → n ≤ d → ((i : ℕ) → n ≤ i → c i ≡ A.zero) → power_sum S act x n c ≡ S.zero → (i : ℕ) → c i ≡ A.zero
     least_none n c l past z =

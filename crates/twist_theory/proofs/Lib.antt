@@ -2,4 +2,3 @@ pub mod Onto
 pub mod Cancel
 pub mod Points
 pub mod FewRoots
-pub mod Domain

@@ -1,6 +1,7 @@
 use Rattle.std.proofs.Common.{◌≡◌, ◌-◌, length, sym, ap, subst, ◌∙◌}
 use Rattle.ring_core.specs.Coeffs.{coeff}
 use Rattle.ring_core.proofs.Coefficients.{elem_read}
+use Rattle.ring_core.proofs.Twist.{frob_twist}
 use Rattle.euclid_theory.proofs.OreSizes.{top_cancelled}
 use Rattle.ore_divide.specs.steps.Sides.{term_on}
 use Rattle.ore_divide.proofs.LeftPlaces.{top_cancelled_left}
@@ -18,7 +19,7 @@ returns-in-Right-clause-clears g c =
     let is = c.neg.ensures.value ∙ ap r.neg (c.mul-product.ensures.value ∙ ap (r.mul c.args.top) c.frob-raised.ensures.value) in
     subst (λ s. r.add c.args.top (term_on s r f.frob c.neg.result i b high) ≡ r.zero) (sym c.in-Right.is)
     (ap (λ x. r.add c.args.top (r.mul x (f.frob (coeff r b high) i))) is
-    ∙ top_cancelled r (g.K.Field.inv_of k) _ f field (g.met.K.FrobField.frob_laws k) c.args.top (coeff r b high) c.args.inverse i
+    ∙ top_cancelled r (g.K.Field.inv_of k) field f.frob (frob_twist r (g.K.Field.inv_of k) _ f field (g.met.K.FrobField.frob_laws k)) c.args.top (coeff r b high) c.args.inverse i
     c.requires.top (elem_read r b field.ring.closed.zero_in c.requires.divisor high) c.requires.inverse_in c.requires.inverts)
 
 pub returns-in-Left-clause-clears : goal.returns-in-Left-clause-clears
