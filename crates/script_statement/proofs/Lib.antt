@@ -1,4 +1,2 @@
-pub mod Ends
+pub mod Forms
 pub mod OneForm
-pub mod Refused
-pub mod There

@@ -1,3 +1,5 @@
+#![tactic(auto, using(crate::proofs::Forms::forms))]
+
 ghost use Rattle.std.specs.Prelude.{◌≡◌, List, [], IfOk, IfSome, IfNone};
 ghost use Rattle.script_lang.specs.declared.Token.{Token};
 ghost use Rattle.script_statement.specs.declared.form.Form.{Form};

@@ -1,3 +1,5 @@
+#![tactic(auto, using(crate::proofs::Forms::forms))]
+
 ghost use Rattle.std.specs.Prelude.{◌≡◌, ◌≢◌, ℕ, Bool, List, [], ◌∷◌, Option, IfOk, IfSome, IfNone, MatchOption, IsTrue, ◌↔◌};
 ghost use Rattle.script_lang.specs.declared.Token.{Token};
 ghost use Rattle.script_lang.specs.declared.ModArg.{ModArg};
