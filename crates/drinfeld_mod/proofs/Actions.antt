@@ -73,9 +73,8 @@ module _ {E B : Type 0} (r : RingOps E) (inv : E → Option E) (base : RingOps B
       times : (a b : E) → IsElem r a → IsElem r b → are_elems r (constant r a) ≡ true → (eb : are_elems r (constant r b) ≡ true) (i : ℕ)
           → coeff r (list_mul r f.frob (constant r a) (constant r b)) i ≡ r.mul a (coeff r (constant r b) i)
       times a b p q ea eb i =
-          let place : i - 0 ≡ i = omega arith in
           coeff-mul r k.ring f.frob t (constant r a) (constant r b) ea eb i ∙ monomial_product r k.ring f.frob t a 0 (constant r b) p eb i (omega arith)
-          ∙ ap (r.mul a) (l.frob_zero _ (value r k.ring (constant r b) eb (i - 0)).1 ∙ ap (coeff r (constant r b)) place)
+          ∙ ap (r.mul a) (l.frob_zero _ (value r k.ring (constant r b) eb (i - 0)).1 ∙ ap (coeff r (constant r b)) (omega arith))
 
   module _ (phi : List E) (c : is_canonical r phi ≡ true) where
     abbrev pub point : Ores r inv base f k l

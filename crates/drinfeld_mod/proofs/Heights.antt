@@ -31,13 +31,13 @@ use Rattle.drinfeld_mod.proofs.Periods.{coeffs as own_coeffs, value_is, degree_d
 -- What a product of two numbers that isn't zero, and isn't above `n * d`, says of its factors.
 height_told : (h d n : ℕ) → 1 ≤ h * d → h * d ≤ n * d → (0 < d) × (1 ≤ h) × (h ≤ n)
 height_told zero d n pos most = let none : 0 * d ≡ 0 = omega arith in absurd (omega arith)
-height_told (suc h) zero n pos most = let none : suc h * 0 ≡ 0 = omega arith in absurd (omega arith)
+height_told (suc h) zero n pos most = absurd (omega arith)
 height_told (suc h) (suc d) n pos most = (omega arith, omega arith, le_of_mul-le-mul_right most (omega arith))
 
 module _ {M : Type 0} (R : RingOn M) where
   module _ (len : M → ℕ) (h : HasSizes R len) (x : M) (k : ℕ) (degree : len x ≡ suc k) where
     power_size : (n : ℕ) → len (power R x n) ≡ k * n + 1
-    power_size zero = let one : len R.one ≡ 1 = h.unit in let none : k * 0 ≡ 0 = omega arith in omega arith
+    power_size zero = let none : k * 0 ≡ 0 = omega arith in omega arith
     power_size (suc n) =
         let before : len (power R x n) ≡ k * n + 1 = power_size n in
         let more : k * suc n ≡ k * n + k = omega arith in
@@ -78,8 +78,7 @@ module _ {M : Type 0} (R : RingOn M) where
           let twice : len (R.neg (R.neg top)) ≡ len top = ap len (neg_neg R top) in
           let back : len (R.neg (R.neg top)) ≤ len (R.neg top) = h.neg (R.neg top) in
           let negative : len (R.neg top) ≤ len top = h.neg top in
-          let keeps : len (R.add low (R.neg (R.neg top))) ≡ len (R.neg top) = minus_keeps R len h low (R.neg top) (omega arith) in
-          ap (λ y. len (R.add low y)) (sym (neg_neg R top)) ∙ keeps ∙ omega arith
+          ap (λ y. len (R.add low y)) (sym (neg_neg R top)) ∙ minus_keeps R len h low (R.neg top) (omega arith) ∙ omega arith
 
 module _ {E : Type 0} (r : RingOps E) (inv : E → Option E) (k : IsField r inv) where
   -- equal products with a factor that isn't zero
@@ -114,14 +113,12 @@ module _ {E B : Type 0} (r : RingOps E) (inv : E → Option E) (base : RingOps B
         let pc = elem_read r phi z ep 0 in
         let x = coeff r u i in
         let px = elem_read r u z eu i in
-        let here : i - i ≡ 0 = omega arith in
-        let there : i - 0 ≡ i = omega arith in
         let one : product_at r f.frob u phi i ≡ r.mul x (f.frob c i) =
         product_single r k.ring f.frob t u phi eu ep i i (omega arith) (λ j less other. inl (low.below j (omega arith)))
-        ∙ ap (λ n. r.mul x (f.frob (coeff r phi n) i)) here in
+        ∙ ap (λ n. r.mul x (f.frob (coeff r phi n) i)) (omega arith) in
         let two : product_at r f.frob phi u i ≡ r.mul c x =
         product_single r k.ring f.frob t phi u ep eu i 0 (omega arith) (λ j less other. inr (low.below (i - j) (omega arith)))
-        ∙ ap (r.mul c) (ap (λ n. f.frob (coeff r u n) 0) there ∙ l.frob_zero x px) in
+        ∙ ap (r.mul c) (ap (λ n. f.frob (coeff r u n) 0) (omega arith) ∙ l.frob_zero x px) in
         cancel r inv k x (f.frob c i) c px (l.frob_in c i pc) pc low.nonzero
         (sym one ∙ sym (coeff-mul r k.ring f.frob t u phi eu ep i) ∙ ap (λ v. coeff r v i) (sym (image_central r inv base base_inv f k kb l phi m.canonical a e))
         ∙ coeff-mul r k.ring f.frob t phi u ep eu i ∙ two ∙ k.mul_comm c x pc px)
@@ -132,10 +129,8 @@ module _ {E B : Type 0} (r : RingOps E) (inv : E → Option E) (base : RingOps B
 
   first_mul : (u v : Ores r inv base f k l) → first (S.mul u v) ≡ (elements k.ring).mul (first u) (first v)
   first_mul u v =
-      let eu : are_elems r u.0 ≡ true = (and_parts _ _ u.1).0 in
-      let ev : are_elems r v.0 ≡ true = (and_parts _ _ v.1).0 in
       same_element r (first (S.mul u v)) ((elements k.ring).mul (first u) (first v))
-      (coeff-mul r k.ring f.frob t u.0 v.0 eu ev 0
+      (coeff-mul r k.ring f.frob t u.0 v.0 (and_parts _ _ u.1).0 (and_parts _ _ v.1).0 0
       ∙ k.ring.zero_add _ (k.ring.closed.mul_in _ _ (first u).1 (l.frob_in _ 0 (first v).1))
       ∙ ap (r.mul (coeff r u.0 0)) (l.frob_zero _ (first v).1))
 

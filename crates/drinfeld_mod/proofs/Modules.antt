@@ -19,9 +19,8 @@ module _ {E : Type 0} (r : RingOps E) where
   -- no zero stands at the top of a list whose last member isn't zero
   pub trimmed_by_top : (u : List E) → 0 < length u → r.same (coeff r u (length u - 1)) r.zero ≡ false → is_trimmed r u ≡ true
   trimmed_by_top u pos e =
-      let whole : length u ≤ length u - 1 + 1 = omega arith in
       let trimmed = trim_found r u (length u) pos (omega arith) e (ap (trim r) (take_all (length u) u (omega arith))) in
-      ap (is_trimmed r) (sym (take_all (length u - 1 + 1) u whole) ∙ trimmed) ∙ trimmed-trim r u
+      ap (is_trimmed r) (sym (take_all (length u - 1 + 1) u (omega arith)) ∙ trimmed) ∙ trimmed-trim r u
 
   -- at most nine elements that have a rank are a module
   pub module_is : (u : List E) → are_elems r u ≡ true → has_no_rank r u ≡ false → length u ≤ 9 → IsModule r u

@@ -108,8 +108,7 @@ module _ {M : Type 0} (R : RingOn M) (comm : (a b : M) → R.mul a b ≡ R.mul b
   -- the first root
   pub roots_value : (c : ℕ → M) (n : ℕ) → total R (suc (suc n)) (λ i. R.mul (roots R c (suc n) i) (power R (c 0) i)) ≡ R.zero
   roots_value c n =
-      let g = roots R (λ j. c (suc j)) n in
       ap (λ (h : ℕ → M). total R (suc (suc n)) (λ i. R.mul (h i) (power R (c 0) i))) (fun_ext (roots_front c n))
-      ∙ linear_value (c 0) g (suc n)
+      ∙ linear_value (c 0) (roots R (λ j. c (suc j)) n) (suc n)
       ∙ ap R.neg (ap (λ x. R.mul x (power R (c 0) (suc n))) (ap (R.mul (c 0)) (roots_past R (λ j. c (suc j)) n (suc n) (omega arith)) ∙ mul_zero R (c 0)) ∙ zero_mul R _)
       ∙ neg_zero R

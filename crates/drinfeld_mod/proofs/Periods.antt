@@ -119,8 +119,7 @@ module _ {E B : Type 0} (r : RingOps E) (inv : E → Option E) (base : RingOps B
 
       next : (j : ℕ) → s (orbit j) ≡ orbit (suc j)
       next j =
-          let step : j + 1 ≡ suc j = omega arith in
-          same_element r _ _ (sym (l.frob_plus z j 1 pz) ∙ ap (f.frob z) step)
+          same_element r _ _ (sym (l.frob_plus z j 1 pz) ∙ ap (f.frob z) (omega arith))
 
       still : (i : ℕ) → s (q i) ≡ q i
       still i =
@@ -174,16 +173,14 @@ module _ {E B : Type 0} (r : RingOps E) (inv : E → Option E) (base : RingOps B
       -- a polynomial of least degree has the period as its degree
       degree_is : (a : List B) → IsMinPoly r base f.embed z a → length a ≡ suc (suc n)
       degree_is a p =
-          let some : a ≢ [] = λ e. kb.one_ne_zero (sym p.monic ∙ ap (λ u. coeff base u (length u - 1)) e) in
-          let large = root_long a p.canonical some p.root n period in
+          let large = root_long a p.canonical (λ e. kb.one_ne_zero (sym p.monic ∙ ap (λ u. coeff base u (length u - 1)) e)) p.root n period in
           let small = p.least orbit_list orbit_is_least.canonical (not_empty orbit_list (omega (arith, length-orbit_list))) root in
           omega (arith, large, small, length-orbit_list)
 
       round : (i : ℕ) → f.frob z (suc n * i) ≡ z
-      round zero = let none : suc n * 0 ≡ 0 = omega arith in ap (f.frob z) none ∙ l.frob_zero z pz
+      round zero = ap (f.frob z) (omega arith) ∙ l.frob_zero z pz
       round (suc i) =
-          let more : suc n * suc i ≡ suc n * i + suc n = omega arith in
-          ap (f.frob z) more ∙ l.frob_plus z (suc n * i) (suc n) pz ∙ ap (λ x. f.frob x (suc n)) (round i) ∙ period.holds
+          ap (f.frob z) (omega arith) ∙ l.frob_plus z (suc n * i) (suc n) pz ∙ ap (λ x. f.frob x (suc n)) (round i) ∙ period.holds
 
       -- no fewer steps lead back
       no_fewer : (i : ℕ) → i < suc n → f.frob z i ≡ z → i ≡ 0
@@ -192,8 +189,7 @@ module _ {E B : Type 0} (r : RingOps E) (inv : E → Option E) (base : RingOps B
 
     period_of : (n : ℕ) × (n ≤ f.degree - 1) × IsLeast Back n
     period_of =
-        let whole : suc (f.degree - 1) ≡ f.degree = omega (arith, l.degree_pos) in
-        least_of Back (λ i. equal_or_not r k.ring.equal _ z (l.frob_in z (suc i) pz) pz) (f.degree - 1) (ap (f.frob z) whole ∙ l.frob_degree z pz)
+        least_of Back (λ i. equal_or_not r k.ring.equal _ z (l.frob_in z (suc i) pz) pz) (f.degree - 1) (ap (f.frob z) (omega (arith, l.degree_pos)) ∙ l.frob_degree z pz)
 
     -- An element has a polynomial of least degree over the base.
     pub least_exists : (a : List B) × IsMinPoly r base f.embed z a

@@ -16,7 +16,6 @@ module _ {M : Type 0} (R : RingOn M) (len : M → ℕ) (h : HasSizes R len) (u p
   -- its degree
   factor_degree : (c : M) → R.mul u p ≡ R.mul c u → len c ≡ len p
   factor_degree c e =
-      let whole : len (R.mul u p) + 1 ≡ len u + len p = h.product u p nonzero module_p in
       let same : len (R.mul u p) ≡ len (R.mul c u) = ap len e in
       ⊎_elim
       (λ (none : len c < 1).

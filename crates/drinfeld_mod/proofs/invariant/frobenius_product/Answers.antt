@@ -5,13 +5,11 @@ use Rattle.drinfeld_mod.proofs.invariant.frobenius_product.Goals as goal
 pub loop-i-init : goal.loop-i-init
 loop-i-init g c =
     let k = c.args.field.now in
-    let f = g.K.FrobField.frob_ops k in
-    let none : c.args.step * 0 ≡ 0 = omega arith in
     record {
       elem = c.one-product.ensures.elem;
       value = c.one-product.ensures.value;
       image_in = c.requires;
-      image = sym (ap (f.frob c.args.c) none ∙ (g.met.K.FrobField.frob_laws k).frob_zero c.args.c c.requires);
+      image = sym (ap ((g.K.FrobField.frob_ops k).frob c.args.c) (omega arith) ∙ (g.met.K.FrobField.frob_laws k).frob_zero c.args.c c.requires);
     }
 
 pub loop-i-preserved : goal.loop-i-preserved

@@ -1,4 +1,4 @@
-use Rattle.std.proofs.Common.{◌≡◌, ◌<◌, length, sym, ◌∙◌, ap, arith}
+use Rattle.std.proofs.Common.{◌≡◌, sym, ◌∙◌, ap, arith}
 use Rattle.std.proofs.lemmas.Bool.{and_parts, both_ways}
 use Rattle.std.proofs.lemmas.List.{nil_from_length}
 use Rattle.ring_core.specs.Ring.{IsElem}
@@ -40,8 +40,7 @@ returns-clause-answer g c =
     let read : c.coeff_at-constant.result ≡ constant_of r c.in_ok-quotient.field-0.quotient = rw c.as_slice.ensures at c.coeff_at-constant.ensures.value in
     let inside : IsElem r c.constant.result =
     ap r.is_elem (c.constant.ensures r) ∙ elem_read r c.args.phi.now field.ring.closed.zero_in (and_parts _ _ c.requires.module.canonical).0 0 in
-    let some : 0 < length c.args.u.now = omega (arith, c.len.ensures) in
     rw (c.from_vec.ensures, c.into_vec.ensures)
-    (quotient_found _ _ _ _ field (g.met.K.FrobField.frob_laws k) _ c.requires.module _ _ _ c.requires.divisor some c.in_ok-quotient.ensures
+    (quotient_found _ _ _ _ field (g.met.K.FrobField.frob_laws k) _ c.requires.module _ _ _ c.requires.divisor (omega (arith, c.len.ensures)) c.in_ok-quotient.ensures
     (nil_from_length c.in_ok-quotient.field-0.remainder (omega (arith, c.len-2.ensures)))
     (sym read ∙ field.ring.equal.same_eq _ _ c.coeff_at-constant.ensures.elem inside (sym c.equal.ensures ∙ c.if-not-equal.false) ∙ c.constant.ensures r))
