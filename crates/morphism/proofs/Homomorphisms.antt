@@ -1,5 +1,5 @@
 -- Sums and products of homomorphisms.
-use Rattle.std.proofs.Common.{◌≡◌, ◌≢◌, ℕ, zero, suc, ◌+◌, ◌<◌, ◌≤◌, true, Option, List, [], length, sym, ◌∙◌, ap, ap₂, subst, arith}
+use Rattle.std.proofs.Common.{◌≡◌, ◌≢◌, ℕ, zero, suc, ◌+◌, ◌<◌, ◌≤◌, true, Option, List, [], length, refl, sym, ◌∙◌, ap, ap₂, arith}
 use Rattle.std.proofs.lemmas.Bool.{and_parts}
 use Rattle.ring_core.specs.Ring.{RingOps}
 use Rattle.ring_core.specs.Field.{IsField, FrobOps, IsFrobField}
@@ -15,9 +15,9 @@ use Rattle.finite_ring.proofs.Powers.{power}
 use Rattle.euclid_theory.proofs.OreSizes.{Ores, ores, ore_sizes}
 use Rattle.drinfeld_mod.specs.Module.{IsModule, rank_of}
 use Rattle.drinfeld_mod.specs.Image.{image}
-use Rattle.drinfeld_mod.proofs.Actions.{point, up, coeffs, image_is, image_in, image_central}
+use Rattle.drinfeld_mod.proofs.Actions.{up, coeffs, image_is, image_in}
 use Rattle.morphism.specs.Homomorphism.{IsHomomorphism}
-use Rattle.morphism.specs.Arrow.{IsMorphism, arrow}
+use Rattle.morphism.specs.Arrow.{arrow}
 
 module _ {M : Type 0} (R : RingOn M) where
   commute_sum : (p s u v : M) → R.mul u p ≡ R.mul s u → R.mul v p ≡ R.mul s v → R.mul (R.add u v) p ≡ R.mul s (R.add u v)
@@ -28,83 +28,67 @@ module _ {M : Type 0} (R : RingOn M) where
       R.mul_assoc v u p ∙ ap (R.mul v) eu ∙ sym (R.mul_assoc v q u) ∙ ap (λ x. R.mul x u) ev ∙ R.mul_assoc s v u
 
   -- what commutes with the coefficients and the point commutes with the value
-  commute_power : (y x : M) → R.mul y x ≡ R.mul x y → (n : ℕ) → R.mul y (power R x n) ≡ R.mul (power R x n) y
-  commute_power y x e zero = R.mul_one y ∙ sym (R.one_mul y)
-  commute_power y x e (suc n) =
-      sym (R.mul_assoc y (power R x n) x) ∙ ap (λ z. R.mul z x) (commute_power y x e n) ∙ R.mul_assoc (power R x n) y x
-      ∙ ap (R.mul (power R x n)) e ∙ sym (R.mul_assoc (power R x n) x y)
+  commute_power : (y x : M) → R.mul x y ≡ R.mul y x → (n : ℕ) → R.mul (power R x n) y ≡ R.mul y (power R x n)
+  commute_power y x e zero = R.one_mul y ∙ sym (R.mul_one y)
+  commute_power y x e (suc n) = commute_product y y y x (power R x n) e (commute_power y x e n)
 
-  commute_value : (y x : M) (c : ℕ → M) → R.mul y x ≡ R.mul x y → ((i : ℕ) → R.mul y (c i) ≡ R.mul (c i) y) → (n : ℕ)
-      → R.mul y (total R n (λ i. R.mul (c i) (power R x i))) ≡ R.mul (total R n (λ i. R.mul (c i) (power R x i))) y
-  commute_value y x c e each zero = mul_zero R y ∙ sym (zero_mul R y)
-  commute_value y x c e each (suc n) =
-      R.mul_add y _ _
-      ∙ ap₂ R.add (commute_value y x c e each n)
-      (sym (R.mul_assoc y (c n) (power R x n)) ∙ ap (λ z. R.mul z (power R x n)) (each n) ∙ R.mul_assoc (c n) y (power R x n)
-      ∙ ap (R.mul (c n)) (commute_power y x e n) ∙ sym (R.mul_assoc (c n) (power R x n) y))
-      ∙ sym (R.add_mul _ _ y)
+  commute_value : (y x : M) (c : ℕ → M) → R.mul x y ≡ R.mul y x → ((i : ℕ) → R.mul (c i) y ≡ R.mul y (c i)) → (n : ℕ)
+      → R.mul (total R n (λ i. R.mul (c i) (power R x i))) y ≡ R.mul y (total R n (λ i. R.mul (c i) (power R x i)))
+  commute_value y x c e each zero = zero_mul R y ∙ sym (mul_zero R y)
+  commute_value y x c e each (suc n) = commute_sum y y _ _ (commute_value y x c e each n) (commute_product y y y (power R x n) (c n) (commute_power y x e n) (each n))
 
-module _ {E B : Type 0} (r : RingOps E) (inv : E → Option E) (base : RingOps B) (base_inv : B → Option B) (f : FrobOps E B) (k : IsField r inv) (kb : IsField base base_inv) (l : IsFrobField r base f) where
+module _ {E B : Type 0} {r : RingOps E} {inv : E → Option E} {base : RingOps B} {base_inv : B → Option B} {f : FrobOps E B} (k : IsField r inv) (kb : IsField base base_inv) (l : IsFrobField r base f) where
   abbrev S : RingOn (Ores r inv base f k l)
   S = ores r inv base f k l
 
   abbrev ops : RingOps (List E)
   ops = twisted_ops r f.frob
 
-  as_equation : (p s u : Ores r inv base f k l) → list_mul r f.frob u.0 p.0 ≡ list_mul r f.frob s.0 u.0 → S.mul u p ≡ S.mul s u
-  as_equation p s u e = same_element ops (S.mul u p) (S.mul s u) e
-
-  pub hom_sum : (phi psi u v : List E) → is_canonical r phi ≡ true → is_canonical r psi ≡ true → IsHomomorphism r f.frob phi psi u → IsHomomorphism r f.frob phi psi v
+  pub hom_sum : (phi psi u v : List E) → IsModule r phi → IsModule r psi → IsHomomorphism r f.frob phi psi u → IsHomomorphism r f.frob phi psi v
       → IsHomomorphism r f.frob phi psi (list_add r u v)
-  hom_sum phi psi u v cp cs hu hv =
-      let U : Ores r inv base f k l = (u, hu.canonical) in
-      let V : Ores r inv base f k l = (v, hv.canonical) in
-      let P : Ores r inv base f k l = (phi, cp) in
-      let Q : Ores r inv base f k l = (psi, cs) in
-      record {
-        canonical = (S.add U V).1;
-        commutes = ap (λ x. x.0) (commute_sum S P Q U V (as_equation P Q U hu.commutes) (as_equation P Q V hv.commutes));
-      }
-
-  pub hom_product : (phi psi chi u v : List E) → is_canonical r phi ≡ true → is_canonical r psi ≡ true → is_canonical r chi ≡ true
-      → IsHomomorphism r f.frob phi psi u → IsHomomorphism r f.frob psi chi v → IsHomomorphism r f.frob phi chi (list_mul r f.frob v u)
-  hom_product phi psi chi u v cp cs cc hu hv =
-      let U : Ores r inv base f k l = (u, hu.canonical) in
-      let V : Ores r inv base f k l = (v, hv.canonical) in
-      let P : Ores r inv base f k l = (phi, cp) in
-      let Q : Ores r inv base f k l = (psi, cs) in
-      let X : Ores r inv base f k l = (chi, cc) in
-      record {
-        canonical = (S.mul V U).1;
-        commutes = ap (λ x. x.0) (commute_product S P Q X U V (as_equation P Q U hu.commutes) (as_equation Q X V hv.commutes));
-      }
-
-  -- the image of a polynomial is an endomorphism
-  pub hom_image : (phi : List E) (a : List B) → is_canonical r phi ≡ true → are_elems base a ≡ true → IsHomomorphism r f.frob phi phi (image r base f phi a)
-  hom_image phi a cp e = record {
-    canonical = image_in r inv base base_inv f k kb l phi cp a e;
-    commutes = sym (image_central r inv base base_inv f k kb l phi cp a e);
+  hom_sum phi psi u v mp ms hu hv = record {
+    canonical = (S.add (u, hu.canonical) (v, hv.canonical)).1;
+    commutes =
+        ap (λ x. x.0)
+        (commute_sum S (phi, mp.canonical) (psi, ms.canonical) (u, hu.canonical) (v, hv.canonical) (same_element ops _ _ hu.commutes) (same_element ops _ _ hv.commutes));
   }
 
-  -- and so is a polynomial in the power of tau by the degree of the field, of every module
-  pub hom_central : (phi : List E) (c : List B) → is_canonical r phi ≡ true → are_elems base c ≡ true → IsHomomorphism r f.frob phi phi (image r base f (tau_power r f.degree) c)
-  hom_central phi c cp e =
-      let P : Ores r inv base f k l = (phi, cp) in
-      let tau = tau_power r f.degree in
-      let ct : is_canonical r tau ≡ true = monomial_in r k.ring r.one f.degree k.ring.closed.one_in in
-      let ep : are_elems r phi ≡ true = (and_parts _ _ cp).0 in
-      let x = point r inv base base_inv f k kb l tau ct in
-      let own = coeffs r inv base base_inv f k kb l tau ct c e in
-      let commuted =
-      commute_value S P x (λ i. up r inv base base_inv f k kb l (own i))
-      (same_element ops (S.mul P x) (S.mul x P) (sym (tau_degree_central r inv base f k l phi ep)))
-      (λ i. same_element ops (S.mul P (up r inv base base_inv f k kb l (own i))) (S.mul (up r inv base base_inv f k kb l (own i)) P) (sym (base_central r inv base f k l (own i).0 phi (own i).1 ep)))
-      (length c) in
-      let is = image_is r inv base base_inv f k kb l tau ct c e in
+  pub hom_product : (phi psi chi u v : List E) → IsModule r phi → IsModule r psi → IsModule r chi → IsHomomorphism r f.frob phi psi u → IsHomomorphism r f.frob psi chi v
+      → IsHomomorphism r f.frob phi chi (list_mul r f.frob v u)
+  hom_product phi psi chi u v mp ms mc hu hv = record {
+    canonical = (S.mul (v, hv.canonical) (u, hu.canonical)).1;
+    commutes =
+        ap (λ x. x.0)
+        (commute_product S (phi, mp.canonical) (psi, ms.canonical) (chi, mc.canonical) (u, hu.canonical) (v, hv.canonical) (same_element ops _ _ hu.commutes)
+        (same_element ops _ _ hv.commutes));
+  }
+
+  -- The image of a polynomial at what commutes with the image of T is an endomorphism.
+  hom_value : (phi x : Ores r inv base f k l) → S.mul x phi ≡ S.mul phi x → (a : List B) → is_canonical base a ≡ true → IsHomomorphism r f.frob phi.0 phi.0 (image r base f x.0 a)
+  hom_value phi x commutes a ca =
+      let ea : are_elems base a ≡ true = (and_parts _ _ ca).0 in
+      let own = coeffs r inv base base_inv f k kb l x.0 x.1 a ea in
+      let is = image_is r inv base base_inv f k kb l x.0 x.1 a ea in
       record {
-        canonical = image_in r inv base base_inv f k kb l tau ct c e;
-        commutes = ap (λ y. list_mul r f.frob y phi) (sym is) ∙ sym (ap (λ y. y.0) commuted) ∙ ap (list_mul r f.frob phi) is;
+        canonical = image_in r inv base base_inv f k kb l x.0 x.1 a ea;
+        commutes = ap (λ y. list_mul r f.frob y phi.0) (sym is)
+            ∙ ap (λ y. y.0)
+            (commute_value S phi x (λ i. up r inv base base_inv f k kb l (own i)) commutes
+            (λ i. same_element ops _ _ (base_central r inv base f k l (own i).0 phi.0 (own i).1 (and_parts _ _ phi.1).0)) (length a))
+            ∙ ap (list_mul r f.frob phi.0) is;
       }
+
+  pub hom_image : (phi psi u : List E) (a : List B) → IsModule r phi → IsModule r psi → is_canonical base a ≡ true → IsHomomorphism r f.frob phi psi u
+      → IsHomomorphism r f.frob phi psi (list_mul r f.frob u (image r base f phi a))
+  hom_image phi psi u a mp ms ca hu = hom_product phi phi psi (image r base f phi a) u mp mp ms (hom_value (phi, mp.canonical) (phi, mp.canonical) refl a ca) hu
+
+  -- so is a polynomial in the power of tau by the degree of the field, of every module
+  pub hom_central : (phi psi u : List E) (c : List B) → IsModule r phi → IsModule r psi → is_canonical base c ≡ true → IsHomomorphism r f.frob phi psi u
+      → IsHomomorphism r f.frob phi psi (list_mul r f.frob (image r base f (tau_power r f.degree) c) u)
+  hom_central phi psi u c mp ms cc hu =
+      let tau : Ores r inv base f k l = (tau_power r f.degree, monomial_in r k.ring r.one f.degree k.ring.closed.one_in) in
+      let central = same_element ops (S.mul tau (psi, ms.canonical)) (S.mul (psi, ms.canonical) tau) (tau_degree_central r inv base f k l psi (and_parts _ _ ms.canonical).0) in
+      hom_product phi psi psi u (image r base f tau.0 c) mp ms ms hu (hom_value (psi, ms.canonical) tau central c cc)
 
   -- equal ranks
   pub ranks_same : (phi psi u : List E) → IsModule r phi → IsModule r psi → IsHomomorphism r f.frob phi psi u → u ≢ [] → rank_of phi ≡ rank_of psi
@@ -120,12 +104,6 @@ module _ {E B : Type 0} (r : RingOps E) (inv : E → Option E) (base : RingOps B
       let right : length (list_mul r f.frob psi u) + 1 ≡ length psi + length u = h.product Q U (omega (arith, wide)) pos in
       let same : length (list_mul r f.frob u phi) ≡ length (list_mul r f.frob psi u) = ap length hu.commutes in
       omega (arith, left, right, same)
-
--- an arrow whose parts are those of a morphism is one
-pub morphism_by_parts : {E : Type 0} (r : RingOps E) (frob : E → ℕ → E) (u v phi chi psi rho : List E) → u ≡ v → phi ≡ chi → psi ≡ rho → IsMorphism r frob (arrow v chi rho) → IsMorphism r frob (arrow u phi psi)
-morphism_by_parts r frob u v phi chi psi rho a b c m =
-    subst (λ x. IsMorphism r frob (arrow x phi psi)) (sym a)
-    (subst (λ x. IsMorphism r frob (arrow v x psi)) (sym b) (subst (λ x. IsMorphism r frob (arrow v chi x)) (sym c) m))
 
 pub arrow_by_parts : {E : Type 0} (u v phi chi psi rho : List E) → u ≡ v → phi ≡ chi → psi ≡ rho → arrow u phi psi ≡ arrow v chi rho
 arrow_by_parts u v phi chi psi rho a b c = ap (λ x. arrow x phi psi) a ∙ ap (λ x. arrow v x psi) b ∙ ap (arrow v chi) c

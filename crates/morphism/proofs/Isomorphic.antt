@@ -1,5 +1,5 @@
 -- A constant that is an isomorphism leaves the invariants as they are.
-use Rattle.std.proofs.Common.{◌≡◌, ◌≢◌, ℕ, ◌+◌, ◌-◌, ◌*◌, ◌^◌, ◌≤◌, true, Option, List, [], length, sym, ◌∙◌, ap, subst, ⊎_elim, arith}
+use Rattle.std.proofs.Common.{◌≡◌, ◌≢◌, ℕ, ◌+◌, ◌-◌, ◌*◌, ◌^◌, ◌<◌, ◌≤◌, true, Option, List, [], length, sym, ◌∙◌, ap, subst, ⊎_elim, arith}
 use Rattle.std.proofs.Math.Nat.{one-le-pow}
 use Rattle.std.proofs.lemmas.Bool.{and_parts, cases_eq}
 use Rattle.ring_core.specs.Ring.{RingOps, IsElem}
@@ -54,7 +54,7 @@ exponents_meet p K Q A B pk pq ea eb =
     balanced : (m A B : ℕ) → (B * m + 1) * A + B ≡ (A * m + 1) * B + A
     balanced m A B = omega arith
 
-module _ {E B : Type 0} (r : RingOps E) (inv : E → Option E) (base : RingOps B) (base_inv : B → Option B) (f : FrobOps E B) (k : IsField r inv) (kb : IsField base base_inv) (l : IsFrobField r base f) where
+module _ {E B : Type 0} {r : RingOps E} {inv : E → Option E} {base : RingOps B} {base_inv : B → Option B} {f : FrobOps E B} (k : IsField r inv) (kb : IsField base base_inv) (l : IsFrobField r base f) where
   t : IsTwist r f.frob
   t = frob_twist r inv base f k l
 
@@ -92,9 +92,9 @@ module _ {E B : Type 0} (r : RingOps E) (inv : E → Option E) (base : RingOps B
       ∙ ap (λ v. coeff r v j) equal ∙ coeff-mul r k.ring f.frob t psi (constant r c) es eu j ∙ product_monomial r k.ring f.frob t psi c 0 pc es j (omega arith)
       ∙ ap (λ n. r.mul (coeff r psi n) (f.frob c n)) place)
 
-  pub invariants_same : (q : ℕ) → 2 ≤ q → ((c : E) → IsElem r c → f.frob c 1 ≡ power_of r c q) → (phi psi u : List E) → IsModule r phi → IsModule r psi → IsHomomorphism r f.frob phi psi u
-      → length u ≡ 1 → (i : ℕ) (x : E) → IsInvariant r q phi i x → IsInvariant r q psi i x
-  invariants_same q large h phi psi u mp ms hu one i x v =
+  pub invariants_same : (q : ℕ) (phi psi u : List E) (i : ℕ) (x : E) → 2 ≤ q → ((c : E) → IsElem r c → f.frob c 1 ≡ power_of r c q) → IsModule r phi → IsModule r psi → IsHomomorphism r f.frob phi psi u
+      → length u ≡ 1 → 0 < i → i < rank_of phi → IsInvariant r q phi i x → IsInvariant r q psi i x
+  invariants_same q phi psi u i x large h mp ms hu one _ _ v =
       let z = k.ring.closed.zero_in in
       let R : RingOn (Element r) = elements k.ring in
       let comm : (a b : Element r) → R.mul a b ≡ R.mul b a = λ a b. same_element r _ _ (k.mul_comm a.0 b.0 a.1 b.1) in
@@ -103,7 +103,7 @@ module _ {E B : Type 0} (r : RingOps E) (inv : E → Option E) (base : RingOps B
       let es : are_elems r psi ≡ true = (and_parts _ _ ms.canonical).0 in
       let some : u ≢ [] = λ e. let none : length u ≡ 0 = ap length e in absurd (omega (arith, none, one)) in
       let n = rank_of phi in
-      let rank : rank_of psi ≡ n = sym (ranks_same r inv base base_inv f k kb l phi psi u mp ms hu some) in
+      let rank : rank_of psi ≡ n = sym (ranks_same k kb l phi psi u mp ms hu some) in
       let c = coeff r u 0 in
       let top : length u - 1 ≡ 0 = omega (arith, one) in
       let pc = elem_read r u z parts.0 0 in

@@ -2,14 +2,4 @@ use Rattle.morphism.proofs.Isomorphic.{invariants_same}
 use Rattle.morphism.proofs.laws.equal_invariants.Goals as goal
 
 pub returns : goal.returns
-returns g c = λ k q phi psi u i x large power mp ms hu one pos less v.
-    let r = g.K.Field.ops k in
-    let inv = g.K.Field.inv_of k in
-    let b = g.K.FrobField.base_of k in
-    let base = g.K.Base.Field.ops b in
-    let base_inv = g.K.Base.Field.inv_of b in
-    let f = g.K.FrobField.frob_ops k in
-    let field = g.met.K.Field.laws k in
-    let base_field = g.met.K.Base.Field.laws b in
-    let laws = g.met.K.FrobField.frob_laws k in
-    invariants_same r inv base base_inv f field base_field laws q large power phi psi u mp ms hu one i x v
+returns g c = λ k. invariants_same (g.met.K.Field.laws k) (g.met.K.Base.Field.laws (g.K.FrobField.base_of k)) (g.met.K.FrobField.frob_laws k)
