@@ -23,12 +23,13 @@ use Rattle.linear_algebra.proofs.RowLists.{rows_in}
 use Rattle.linear_algebra.proofs.Sums.{combine, total_left, total_right, total_same}
 use Rattle.finite_ring.proofs.Powers.{power}
 use Rattle.relation_theory.proofs.Gauss.{cauchy_product}
-use Rattle.relation_theory.proofs.Relations.{before}
+use Rattle.euclid_theory.proofs.OreSizes.{ore_sizes}
+use Rattle.euclid_theory.proofs.Sizes.{HasSizes}
 use Rattle.relation_theory.proofs.PolyEuclid.{scalars, polys, coeffs, coeffs_past, coeffs_add, coeffs_mul, poly_same}
 use Rattle.motive_coords.specs.Motive.{IsMotive}
-use Rattle.motive_coords.proofs.Digits.{IsBase, expanded_powers, digits, digits_in, digits_past, digits_add, digits_shift, digits_left, digits_expanded}
-use Rattle.motive_coords.proofs.Ores.{twisted, parts, parts_past, parts_add, single, scale_parts, scale_length, twisted_same, Digit, is_base}
-use Rattle.motive_coords.proofs.OverT.{moved_up, shifts_product}
+use Rattle.motive_coords.proofs.Digits.{expanded_powers, digits_in, digits_expanded}
+use Rattle.motive_coords.proofs.Ores.{twisted, parts, parts_past, parts_add, single, scale_parts, scale_length, twisted_same, digit}
+use Rattle.motive_coords.proofs.Readings.{moved_up, shifts_product, at_past, at_total, at_left, at_power}
 use Rattle.motive_coords.proofs.MotiveValue.{total_swap, gathered, gathered_is, gathered_part, gathered_past}
 use Rattle.motive_coords.proofs.MotiveLaws.{motive_coeffs, motive_exists}
 use Rattle.poly_reduce.specs.Matrices.{row_times}
@@ -136,49 +137,21 @@ module _ {E B : Type 0} (r : RingOps E) (inv : E → Option E) (base : RingOps B
     abbrev p : RingOps (List E)
     p = twisted_ops r (λ c i. c)
 
-    abbrev base_is : IsBase S (λ x. length x.0) (Digit r inv base f k l b d degree) b
-    base_is = is_base r inv base f k l b d degree pos
+    abbrev size : Element (twisted_ops r f.frob) → ℕ
+    size u = length u.0
 
-    digit : Element (twisted_ops r f.frob) → ℕ → Element (twisted_ops r f.frob)
-    digit u e = digits S (λ x. length x.0) (Digit r inv base f k l b d degree) b base_is u e
+    abbrev sizes : HasSizes S (λ u. length u.0)
+    sizes = ore_sizes r inv base f k l
+
+    abbrev digit_of : Element (twisted_ops r f.frob) → ℕ → Element (twisted_ops r f.frob)
+    digit_of = digit r inv base f k l b d degree pos
+
+    abbrev additive : (q : ℕ) (u v : Element (twisted_ops r f.frob)) → part (S.add u v) q ≡ K.add (part u q) (part v q)
+    additive q u v = parts_add r inv base f k l u v q
 
     -- The coefficient at `e` of motive coordinate `q`.
-    at : Element (twisted_ops r f.frob) → ℕ → ℕ → Element r
-    at u q e = part (digit u e) q
-
-    at_past : (u : Element (twisted_ops r f.frob)) (q e : ℕ) → length u.0 ≤ e → at u q e ≡ K.zero
-    unfolding at digit
-    at_past u q e m =
-        ap (λ t. part t q) (digits_past S (λ x. length x.0) (Digit r inv base f k l b d degree) b base_is u e m)
-        ∙ parts_past r inv base f k l S.zero q (omega arith)
-
-    at_add : (u v : Element (twisted_ops r f.frob)) (q e : ℕ) → at (S.add u v) q e ≡ K.add (at u q e) (at v q e)
-    unfolding at digit
-    at_add u v q e =
-        ap (λ t. part t q) (digits_add S (λ x. length x.0) (Digit r inv base f k l b d degree) b base_is u v e) ∙ parts_add r inv base f k l (digit u e) (digit v e) q
-
-    at_scale : (c : Element r) (u : Element (twisted_ops r f.frob)) (q e : ℕ) → at (S.mul (single r inv base f k l c 0) u) q e ≡ K.mul c (at u q e)
-    unfolding at digit
-    at_scale c u q e =
-        ap (λ t. part t q)
-        (digits_left S (λ x. length x.0) (Digit r inv base f k l b d degree) b base_is (single r inv base f k l c 0) u (λ x s. scale_length r inv base f k l c x d s) e)
-        ∙ scale_parts r inv base f k l c (digit u e) q
-
-    at_shift : (u : Element (twisted_ops r f.frob)) (q e : ℕ) → at (S.mul u b) q e ≡ before K.zero (at u q) e
-    unfolding at digit
-    at_shift u q zero =
-        ap (λ t. part t q) (digits_shift S (λ x. length x.0) (Digit r inv base f k l b d degree) b base_is u 0) ∙ parts_past r inv base f k l S.zero q (omega arith)
-    at_shift u q (suc e) = ap (λ t. part t q) (digits_shift S (λ x. length x.0) (Digit r inv base f k l b d degree) b base_is u (suc e))
-
-    at_power : (u : Element (twisted_ops r f.frob)) (q i e : ℕ) → at (S.mul u (power S b i)) q e ≡ moved_up K i (at u q) e
-    at_power u q zero e = ap (λ t. at t q e) (S.mul_one u)
-    at_power u q (suc i) e =
-        ap (λ t. at t q e) (sym (S.mul_assoc u (power S b i) b)) ∙ at_shift (S.mul u (power S b i)) q e
-        ∙ ap (λ t. before K.zero t e) (fun_ext (at_power u q i))
-
-    at_total : (q e n : ℕ) (g : ℕ → Element (twisted_ops r f.frob)) → at (total S n g) q e ≡ total K n (λ i. at (g i) q e)
-    at_total q e zero g = at_past S.zero q e (omega arith)
-    at_total q e (suc n) g = at_add (total S n g) (g n) q e ∙ ap (λ t. K.add t (at (g n) q e)) (at_total q e n g)
+    abbrev at : Element (twisted_ops r f.frob) → ℕ → ℕ → Element r
+    at u q e = part (digit_of u e) q
 
     -- tau^n times a digit
     times_digit : (v : Element (twisted_ops r f.frob)) → length v.0 ≤ d → S.mul (tau f.degree) v ≡ total S d (λ i. S.mul (single r inv base f k l (part v i) 0) (tau (f.degree + i)))
@@ -187,35 +160,33 @@ module _ {E B : Type 0} (r : RingOps E) (inv : E → Option E) (base : RingOps B
         ∙ total_same S d _ _ (λ i _. times_term (part v i) i)
 
     -- one digit's part of the coordinates
-    digit_at : (u : Element (twisted_ops r f.frob)) (j q e : ℕ) → at (S.mul (tau f.degree) (S.mul (digit u j) (power S b j))) q e ≡ total K d (λ i. K.mul (at u i j) (moved_up K j (at (tau (f.degree + i)) q) e))
-    unfolding at digit
+    digit_at : (u : Element (twisted_ops r f.frob)) (j q e : ℕ) → at (S.mul (tau f.degree) (S.mul (digit_of u j) (power S b j))) q e ≡ total K d (λ i. K.mul (at u i j) (moved_up K j (at (tau (f.degree + i)) q) e))
     digit_at u j q e =
-        let v = digit u j in
-        let short : length v.0 ≤ d = digits_in S (λ x. length x.0) (Digit r inv base f k l b d degree) b base_is u j in
+        let v = digit_of u j in
+        let moved : ℕ → Element (twisted_ops r f.frob) = λ i. S.mul (tau (f.degree + i)) (power S b j) in
         ap (λ t. at t q e)
-        (sym (S.mul_assoc (tau f.degree) v (power S b j)) ∙ ap (λ t. S.mul t (power S b j)) (times_digit v short)
+        (sym (S.mul_assoc (tau f.degree) v (power S b j)) ∙ ap (λ t. S.mul t (power S b j)) (times_digit v (digits_in S size sizes b d degree pos u j))
         ∙ sym (total_right S d (power S b j) (λ i. S.mul (single r inv base f k l (part v i) 0) (tau (f.degree + i))))
-        ∙ total_same S d _ (λ i. S.mul (single r inv base f k l (part v i) 0) (S.mul (tau (f.degree + i)) (power S b j))) (λ i _. S.mul_assoc (single r inv base f k l (part v i) 0) (tau (f.degree + i)) (power S b j)))
-        ∙ at_total q e d (λ i. S.mul (single r inv base f k l (part v i) 0) (S.mul (tau (f.degree + i)) (power S b j)))
+        ∙ total_same S d _ (λ i. S.mul (single r inv base f k l (part v i) 0) (moved i)) (λ i _. S.mul_assoc (single r inv base f k l (part v i) 0) (tau (f.degree + i)) (power S b j)))
+        ∙ at_total S K size sizes b d degree pos (λ w. part w q) (additive q) d (λ i. S.mul (single r inv base f k l (part v i) 0) (moved i)) e
         ∙ total_same K d _ _ (λ i _.
-        at_scale (part v i) (S.mul (tau (f.degree + i)) (power S b j)) q e ∙ ap (K.mul (part v i)) (at_power (tau (f.degree + i)) q j e))
+        at_left S K size sizes b d degree pos (λ w. part w q) (additive q) (single r inv base f k l (part v i) 0) (moved i) (part v i)
+        (λ x s. scale_length r inv base f k l (part v i) x d s) (λ x. scale_parts r inv base f k l (part v i) x q) e
+        ∙ ap (K.mul (part v i)) (at_power S K size sizes b d degree pos (λ w. part w q) (additive q) (tau (f.degree + i)) j e))
 
-    sum_of_digits : (u : Element (twisted_ops r f.frob)) → u ≡ total S (length u.0) (λ j. S.mul (digit u j) (power S b j))
-    unfolding digit
+    sum_of_digits : (u : Element (twisted_ops r f.frob)) → u ≡ total S (length u.0) (λ j. S.mul (digit_of u j) (power S b j))
     sum_of_digits u =
-        sym (expanded_powers S b (power S b) refl (λ j. refl) (length u.0) (digit u)
-        ∙ digits_expanded S (λ x. length x.0) (Digit r inv base f k l b d degree) b base_is u (length u.0) (omega arith))
+        sym (expanded_powers S b (power S b) refl (λ j. refl) (length u.0) (digit_of u) ∙ digits_expanded S size sizes b d degree pos u (length u.0) (omega arith))
 
     -- the coordinates of tau^n u
     times_at : (u : Element (twisted_ops r f.frob)) (q e : ℕ) → at (S.mul (tau f.degree) u) q e ≡ total K d (λ i. cauchy_product K (at u i) (at (tau (f.degree + i)) q) e)
     times_at u q e =
         let m = length u.0 in
-        ap (λ t. at (S.mul (tau f.degree) t) q e) (sum_of_digits u)
-        ∙ ap (λ t. at t q e) (sym (total_left S m (tau f.degree) (λ j. S.mul (digit u j) (power S b j))))
-        ∙ at_total q e m (λ j. S.mul (tau f.degree) (S.mul (digit u j) (power S b j)))
+        ap (λ t. at t q e) (ap (S.mul (tau f.degree)) (sum_of_digits u) ∙ sym (total_left S m (tau f.degree) (λ j. S.mul (digit_of u j) (power S b j))))
+        ∙ at_total S K size sizes b d degree pos (λ w. part w q) (additive q) m (λ j. S.mul (tau f.degree) (S.mul (digit_of u j) (power S b j))) e
         ∙ total_same K m _ _ (λ j _. digit_at u j q e)
         ∙ sym (total_swap K d m (λ i j. K.mul (at u i j) (moved_up K j (at (tau (f.degree + i)) q) e)))
-        ∙ total_same K d _ _ (λ i _. shifts_product K m (at u i) (at (tau (f.degree + i)) q) (at_past u i) e)
+        ∙ total_same K d _ _ (λ i _. shifts_product K m (at u i) (at (tau (f.degree + i)) q) (at_past S K size sizes b d degree pos (λ w. part w i) (additive i) u) e)
 
     module _ (u : Element (twisted_ops r f.frob)) (x : List (List E)) (s : IsMotive r f.frob b.0 u.0 x) (images : List (List (List E)))
         (rows : length images ≡ d) (shape : are_rows (twisted_ops r (λ c i. c)) d images ≡ true) (each : (i : ℕ) → i < d → IsMotive r f.frob b.0 (tau_power r (f.degree + i)) (row_at images i)) where
@@ -224,14 +195,14 @@ module _ {E B : Type 0} (r : RingOps E) (inv : E → Option E) (base : RingOps B
       member i = (coeff p x i, elem_read p x refl s.elems i)
 
       member_coeffs : (i j : ℕ) → coeffs r inv k (member i) j ≡ at u i j
-      unfolding member at digit
+      unfolding member
       member_coeffs i j = motive_coeffs r inv base f k l b d degree pos u x s i j
 
       image : ℕ → ℕ → Element (twisted_ops r (λ c i. c))
       image i q = (entry p images i q, rows_in p refl d images shape i q)
 
       image_coeffs : (i q e : ℕ) → i < d → coeffs r inv k (image i q) e ≡ at (tau (f.degree + i)) q e
-      unfolding image at digit
+      unfolding image
       image_coeffs i q e m =
           same_element r _ _ refl ∙ motive_coeffs r inv base f k l b d degree pos (tau (f.degree + i)) (row_at images i) (each i m) q e
 
@@ -254,7 +225,7 @@ module _ {E B : Type 0} (r : RingOps E) (inv : E → Option E) (base : RingOps B
           ∙ combined_is p (poly_ring r k.ring k.one_ne_zero) images image d (λ i _ j. refl) x member (λ i _. refl) q
 
       same_list : (y : List (List E)) → IsMotive r f.frob b.0 (S.mul (tau f.degree) u).0 y → y ≡ list
-      unfolding list at digit
+      unfolding list
       same_list y o =
           let count : length y ≡ d = (let e = o.count in omega (arith, e, degree)) in
           ext_get_or [] y (row_times p d x images) (count ∙ sym (length-first_values d (combined p (length images) (coeff p x) (entry p images)))) (λ q m.

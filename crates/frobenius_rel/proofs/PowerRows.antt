@@ -4,7 +4,7 @@ use Rattle.std.proofs.lemmas.Bool.{and_parts, and_from, cases_eq}
 use Rattle.std.proofs.lemmas.List.{length-append, get_or_append_left, get_or-append_right}
 use Rattle.ring_core.specs.Ring.{RingOps, IsElem}
 use Rattle.ring_core.specs.Field.{IsField, FrobOps, IsFrobField}
-use Rattle.ring_core.specs.Coeffs.{coeff, are_elems, is_canonical}
+use Rattle.ring_core.specs.Coeffs.{coeff, are_elems}
 use Rattle.ring_core.specs.Powers.{power_of}
 use Rattle.ring_core.specs.Twisted.{twisted_ops, list_mul}
 use Rattle.ring_core.specs.Monomial.{tau_power}
@@ -13,9 +13,10 @@ use Rattle.ring_core.proofs.Coefficients.{elem_read, elems-first_values, canonic
 use Rattle.ring_core.proofs.FirstValues.{length-first_values}
 use Rattle.ring_core.proofs.Central.{tau_degree_central}
 use Rattle.linear_algebra.specs.Linear.{row_at, is_row, are_rows}
-use Rattle.linear_algebra.proofs.RowLists.{rows_push}
+use Rattle.linear_algebra.proofs.RowLists.{rows_push, row_len}
 use Rattle.finite_ring.proofs.Powers.{power}
 use Rattle.poly_reduce.specs.Matrices.{IsRelationRow, IsRowBasis, row_times}
+use Rattle.drinfeld_mod.specs.Module.{IsModule, rank_of}
 use Rattle.motive_coords.specs.Motive.{IsMotive}
 use Rattle.motive_coords.specs.OverT.{IsOverT, base_parts}
 use Rattle.frobenius_rel.specs.Relation.{frobenius}
@@ -29,21 +30,21 @@ use Rattle.frobenius_rel.proofs.Relations.{row_is, ArePowerRows, HasNone, none_a
 
 module _ {E B : Type 0} (r : RingOps E) (inv : E → Option E) (base : RingOps B) (binv : B → Option B) (f : FrobOps E B)
     (k : IsField r inv) (kb : IsField base binv) (l : IsFrobField r base f)
-    (phi : List E) (cp : is_canonical r phi ≡ true) (long : 2 ≤ length phi) where
+    (phi : List E) (module_is : IsModule r phi) where
   abbrev p : RingOps (List B)
   p = twisted_ops base (λ c i. c)
 
   abbrev b : Element (twisted_ops r f.frob)
-  b = (phi, cp)
+  b = (phi, module_is.canonical)
 
   abbrev d : ℕ
   d = length phi - 1
 
   pub degree : length phi ≡ suc d
-  degree = omega (arith, long)
+  degree = let p = module_is.rank_pos in omega (arith, p)
 
-  pub pos : 1 ≤ d
-  pos = omega (arith, long)
+  abbrev pub pos : 1 ≤ length phi - 1
+  pos = module_is.rank_pos
 
   -- The coordinates of the first `n` powers of Frobenius, which have no relation, and the motive coordinates of
   -- the next power.
@@ -62,11 +63,11 @@ module _ {E B : Type 0} (r : RingOps E) (inv : E → Option E) (base : RingOps B
   }
 
   -- the coordinates of the next power
-  pub search_row : (n : ℕ) (list : List (List (List B))) (u : List (List E)) (v : List (List B)) → IsSearch n list u → v ≡ base_parts r base f u
+  search_row : (n : ℕ) (list : List (List (List B))) (u : List (List E)) (v : List (List B)) → IsSearch n list u → v ≡ base_parts r base f u
       → IsOverT r base f phi (power_of (twisted_ops r f.frob) (frobenius r f) n) v
   search_row n list u v s e = record { motive = u; is_motive = s.next; is = e }
 
-  pub over_t_row : (u : List E) (v : List (List B)) → IsOverT r base f phi u v → is_row (twisted_ops base (λ c i. c)) (d * f.degree) v ≡ true
+  over_t_row : (u : List E) (v : List (List B)) → IsOverT r base f phi u v → is_row (twisted_ops base (λ c i. c)) (d * f.degree) v ≡ true
   over_t_row u v s =
       let count : length s.motive ≡ d = let e = s.is_motive.count in omega (arith, e) in
       ap (is_row p (d * f.degree)) s.is
@@ -75,6 +76,10 @@ module _ {E B : Type 0} (r : RingOps E) (inv : E → Option E) (base : RingOps B
     where
       member_in : (list : List (List E)) → are_elems (twisted_ops r (λ c i. c)) list ≡ true → (i e : ℕ) → IsElem r (coeff r (coeff (twisted_ops r (λ c i. c)) list i) e)
       member_in list inside i e = elem_read r _ k.ring.closed.zero_in (and_parts _ _ (elem_read (twisted_ops r (λ c i. c)) list refl inside i)).0 e
+
+  pub search_width : (n : ℕ) (list : List (List (List B))) (u : List (List E)) (v : List (List B)) → IsSearch n list u → v ≡ base_parts r base f u → length v ≡ rank_of phi * f.degree
+  search_width n list u v s e =
+      row_len p (d * f.degree) v (over_t_row (power_of (twisted_ops r f.frob) (frobenius r f) n) v (search_row n list u v s e))
 
   -- power `n` of Frobenius
   raised : ℕ → Element (twisted_ops r f.frob)

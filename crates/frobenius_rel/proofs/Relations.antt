@@ -8,10 +8,8 @@ use Rattle.ring_core.proofs.Carrier.{RingOn, Element, same_element}
 use Rattle.ring_core.proofs.Coefficients.{coeff_past, elem_read}
 use Rattle.ring_core.proofs.ListRing.{poly_ring}
 use Rattle.linear_algebra.specs.Linear.{row_at, entry, is_row, are_rows}
-use Rattle.linear_algebra.proofs.Sums.{combine, combine_same}
-use Rattle.linear_algebra.proofs.Dependent.{Dependence, dependence}
-use Rattle.linear_algebra.proofs.Augment.{beside_low, beside_past}
-use Rattle.linear_algebra.specs.steps.Slots.{beside}
+use Rattle.linear_algebra.proofs.Sums.{combine}
+use Rattle.relation_theory.proofs.FirstDependence.{too_many}
 use Rattle.linear_algebra.proofs.RowLists.{rows_at, row_len, row_elems}
 use Rattle.poly_reduce.specs.Matrices.{IsRelationRow, IsRowBasis}
 use Rattle.frobenius_rel.proofs.Values.{value_is}
@@ -26,10 +24,6 @@ use Rattle.relation_theory.proofs.PowerRelations.{power_sum, IsCoordinates, powe
 use Rattle.frobenius_rel.specs.steps.FirstRelation.{IsFirstRelation}
 use Rattle.motive_coords.proofs.Ores.{twisted}
 use Rattle.motive_coords.proofs.OverT.{acting, coordinate_row, frob_of, coordinates}
-
--- An empty basis: zero is the only relation.
-pub none_of_empty : {M : Type 0} (R : RingOn M) (rows : ℕ → ℕ → M) (n : ℕ) (basis : ℕ → ℕ → M) → IsBasisOfRelations R rows n 0 basis → (c : ℕ → M) → IsRel R rows n c → (i : ℕ) → c i ≡ R.zero
-none_of_empty R rows n basis s c t i = (s.spans c t).is i
 
 module _ {E B : Type 0} (r : RingOps E) (inv : E → Option E) (base : RingOps B) (binv : B → Option B) (f : FrobOps E B)
     (k : IsField r inv) (kb : IsField base binv) (l : IsFrobField r base f)
@@ -71,22 +65,9 @@ module _ {E B : Type 0} (r : RingOps E) (inv : E → Option E) (base : RingOps B
 
   -- the number of coordinates bounds the number of powers without a relation
   pub none_ends : HasNone (suc (d * f.degree)) → ⊥
-  none_ends none = s.nonzero (sym (beside_low (suc (d * f.degree)) s.by (λ _. A.zero) s.at s.within) ∙ none cut cut_is s.at)
-    where
-      v : ℕ → ℕ → Element (twisted_ops base (λ c i. c))
-      v = power_rows S A acts x (d * f.degree) rows are_coordinates
-
-      s : Dependence A (suc (d * f.degree)) v
-      s = dependence A (domain A (λ t. length t.0) (poly_euclidean base binv kb)) (suc (d * f.degree)) (d * f.degree) v (omega arith) (λ i _ j m. power_rows_past S A acts x (d * f.degree) rows are_coordinates i j m)
-
-      cut : ℕ → Element (twisted_ops base (λ c i. c))
-      cut = beside (suc (d * f.degree)) s.by (λ _. A.zero)
-
-      cut_is : IsRel A v (suc (d * f.degree)) cut
-      cut_is = record {
-        past = λ i m. beside_past (suc (d * f.degree)) s.by (λ _. A.zero) i m;
-        is = λ j. combine_same A (suc (d * f.degree)) cut s.by v j (beside_low (suc (d * f.degree)) s.by (λ _. A.zero)) ∙ s.is j;
-      }
+  none_ends =
+      too_many A (domain A (λ t. length t.0) (poly_euclidean base binv kb)) (d * f.degree) (power_rows S A acts x (d * f.degree) rows are_coordinates)
+      (power_rows_past S A acts x (d * f.degree) rows are_coordinates)
 
   module _ (n : ℕ) (none : HasNone n) (more basis : List (List (List B))) (rows_are : ArePowerRows (suc n) more)
       (inside : are_rows (twisted_ops base (λ c i. c)) (d * f.degree) more ≡ true)

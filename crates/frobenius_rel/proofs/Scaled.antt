@@ -1,11 +1,11 @@
 -- The first relation with top one, and that it is the only one.
 use Rattle.std.proofs.Common.{◌≡◌, ℕ, suc, ◌-◌, ◌*◌, ◌<◌, ◌≤◌, inl, inr, Option, true, List, [], ◌∷◌, length, refl, sym, ◌∙◌, ap, arith, subst, ext_get_or, cond, ◌≢◌}
-use Rattle.std.proofs.lemmas.Bool.{cases_lt, cases_eq, and_parts, false_from_ne_true}
+use Rattle.std.proofs.lemmas.Bool.{cases_lt, and_parts, false_from_ne_true}
 use Rattle.ring_core.specs.Ring.{RingOps, IsRing, IsElem}
 use Rattle.ring_core.specs.Field.{IsField, FrobOps, IsFrobField}
 use Rattle.ring_core.specs.Coeffs.{coeff, are_elems, is_canonical, trim, first_values, list_of}
 use Rattle.ring_core.specs.Twisted.{twisted_ops, list_mul}
-use Rattle.ring_core.proofs.Carrier.{RingOn, Element, same_element, minus_same, neg_mul}
+use Rattle.ring_core.proofs.Carrier.{RingOn, Element, same_element}
 use Rattle.ring_core.proofs.Coefficients.{coeff_past, elem_read, elems-first_values}
 use Rattle.ring_core.proofs.ListRing.{poly_ring, mul_in}
 use Rattle.linear_algebra.proofs.RowLists.{row_elems, row_len}
@@ -15,7 +15,8 @@ use Rattle.ring_core.proofs.FirstValues.{length-first_values, at-first_values}
 use Rattle.ring_core.proofs.Twist.{no_twist}
 use Rattle.ring_core.proofs.Monomial.{monomial_in, constant_mul}
 use Rattle.ring_core.proofs.Degrees.{top_nonzero}
-use Rattle.relation_theory.proofs.Relations.{IsRel, rel_less, rel_add, rel_scale}
+use Rattle.relation_theory.proofs.Relations.{IsRel, rel_scale, proportional}
+use Rattle.relation_theory.proofs.PolyEuclid.{poly_euclidean}
 use Rattle.frobenius_rel.proofs.ListBases.{values, values_shape, values_at}
 use Rattle.relation_theory.proofs.PowerRelations.{power_rows, value_zero, rows_zero}
 use Rattle.frobenius_rel.specs.Relation.{relation_value, IsLeastRelation}
@@ -69,10 +70,32 @@ module _ {E B : Type 0} (r : RingOps E) (inv : E → Option E) (base : RingOps B
   no_shorter : (a c : List (List B)) → IsLeastRelation r base f b.0 a → IsLeastRelation r base f b.0 c → length a < length c → ⊥
   no_shorter a c s t l = let e = t.least a s.elems l s.is (length a - 1) in let n = ap length (sym s.monic ∙ e) in omega (arith, n)
 
-  -- There is one least relation.
+  -- where a list is the least relation, fewer rows have none
+  none_below : (a : List (List B)) → IsLeastRelation r base f b.0 a → (n : ℕ) → length a ≡ suc n → (c : ℕ → Element (twisted_ops base (λ c i. c))) → IsRel P v n c → (i : ℕ) → c i ≡ P.zero
+  none_below a s n size c t i = elim (cases_lt i n) [
+    | inl m ↦ same_element p _ _ (sym (values_at p ring n c i m) ∙ s.least list (row_elems p n list shape) (let e = short in omega (arith, e, size)) zero_value i)
+    | inr m ↦ t.past i m
+  ]
+    where
+      ring : IsRing (twisted_ops base (λ c i. c))
+      ring = poly_ring base kb.ring kb.one_ne_zero
+
+      list : List (List B)
+      list = values p ring n c
+
+      shape : is_row p n list ≡ true
+      shape = values_shape p ring n c
+
+      short : length list ≡ n
+      short = row_len p n list shape
+
+      zero_value : relation_value r base f b.0 list ≡ []
+      zero_value = value_of list c (λ i m. sym (values_at p ring n c i (let e = short in omega (arith, e, m)))) (subst (λ m. IsRel P v m c) (sym short) t)
+
+  -- There is one least relation: of two, each times the top of the other is the same.
   pub least_only : (a c : List (List B)) → IsLeastRelation r base f b.0 a → IsLeastRelation r base f b.0 c → a ≡ c
   unfolding member
-  least_only a c s t = ext_get_or [] a c len (λ i l. each i l)
+  least_only a c s t = ext_get_or [] a c len (λ i _. ap (λ (y : Element (twisted_ops base (λ c i. c))). y.0) (same i))
     where
       len : length a ≡ length c
       len = elim (cases_lt (length a) (length c)) [
@@ -89,46 +112,18 @@ module _ {E B : Type 0} (r : RingOps E) (inv : E → Option E) (base : RingOps B
       size : length a ≡ suc n
       size = let m = s.long in omega (arith, m)
 
-      apart : ℕ → Element (twisted_ops base (λ c i. c))
-      apart i = P.add (member a s.elems i) (P.mul (P.neg P.one) (member c t.elems i))
+      one_a : member a s.elems n ≡ P.one
+      one_a = same_element p _ _ s.monic
 
-      apart_is : (i : ℕ) → apart i ≡ P.add (member a s.elems i) (P.neg (member c t.elems i))
-      apart_is i = ap (P.add (member a s.elems i)) (neg_mul P P.one (member c t.elems i) ∙ ap P.neg (P.one_mul (member c t.elems i)))
+      one_c : member c t.elems n ≡ P.one
+      one_c = same_element p _ _ (ap (λ m. coeff p c (m - 1)) len ∙ t.monic)
 
-      top : member a s.elems n ≡ member c t.elems n
-      top = same_element p _ _ (s.monic ∙ sym t.monic ∙ ap (λ m. coeff p c (m - 1)) (sym len))
-
-      below : IsRel P v n apart
-      below = rel_less P v n apart
-          (rel_add P v (suc n) (member a s.elems) (λ i. P.mul (P.neg P.one) (member c t.elems i)) (subst (λ m. IsRel P v m (member a s.elems)) size (rel_of a s.elems s.is))
-          (rel_scale P v (suc n) (P.neg P.one) (member c t.elems) (subst (λ m. IsRel P v m (member c t.elems)) (sym len ∙ size) (rel_of c t.elems t.is))))
-          (apart_is n ∙ ap (λ y. P.add y (P.neg (member c t.elems n))) top ∙ P.add_neg (member c t.elems n))
-
-      ring : IsRing (twisted_ops base (λ c i. c))
-      ring = poly_ring base kb.ring kb.one_ne_zero
-
-      list : List (List B)
-      list = values p ring n apart
-
-      shape : is_row p n list ≡ true
-      shape = values_shape p ring n apart
-
-      short : length list ≡ n
-      short = row_len p n list shape
-
-      zero_value : relation_value r base f b.0 list ≡ []
-      zero_value = value_of list apart (λ i m. sym (values_at p ring n apart i (let e = short in omega (arith, e, m)))) (subst (λ m. IsRel P v m apart) (sym short) below)
-
-      same_below : (i : ℕ) → i < n → member a s.elems i ≡ member c t.elems i
-      same_below i m = minus_same P (member a s.elems i) (member c t.elems i)
-          (sym (apart_is i) ∙ same_element p _ _ (sym (values_at p ring n apart i m)
-          ∙ s.least list (row_elems p n list shape) (let e = short in let z = size in omega (arith, e, z)) zero_value i))
-
-      each : (i : ℕ) → i < length a → coeff (twisted_ops base (λ c i. c)) a i ≡ coeff (twisted_ops base (λ c i. c)) c i
-      each i l = elim (cases_eq i n) [
-        | inl e ↦ ap (coeff p a) e ∙ ap (λ (y : Element (twisted_ops base (λ c i. c))). y.0) top ∙ ap (coeff p c) (sym e)
-        | inr ne ↦ ap (λ (y : Element (twisted_ops base (λ c i. c))). y.0) (same_below i (let z = size in omega (arith, z, ne, l)))
-      ]
+      same : (i : ℕ) → member a s.elems i ≡ member c t.elems i
+      same i =
+          sym (P.one_mul _) ∙ ap (λ y. P.mul y (member a s.elems i)) (sym one_c)
+          ∙ proportional P v (poly_euclidean base binv kb).mul_comm n (member a s.elems) (member c t.elems) (subst (λ m. IsRel P v m (member a s.elems)) size (rel_of a s.elems s.is))
+          (subst (λ m. IsRel P v m (member c t.elems)) (sym len ∙ size) (rel_of c t.elems t.is)) (none_below a s n size) i
+          ∙ ap (λ y. P.mul y (member c t.elems i)) one_a ∙ P.one_mul _
 
 -- The constant one.
 one_is : {B : Type 0} (base : RingOps B) (h : IsRing base) → base.one ≢ base.zero → (x : B) → x ≡ base.one → trim base (x ∷ []) ≡ base.one ∷ []

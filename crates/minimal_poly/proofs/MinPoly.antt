@@ -11,7 +11,7 @@ use Rattle.ring_core.specs.Powers.{power_of, base_value}
 use Rattle.ring_core.specs.Twisted.{list_add, list_neg}
 use Rattle.ring_core.proofs.Carrier.{RingOn, Element, same_element, elements, minus_same}
 use Rattle.ring_core.proofs.Coefficients.{coeff_past, elems_push, elems-first_values, trim_found, trimmed-trim, same_coeffs}
-use Rattle.ring_core.proofs.Degrees.{top_nonzero}
+use Rattle.ring_core.proofs.Degrees.{top_nonzero, not_empty, has_members, length_below}
 use Rattle.ring_core.proofs.Twist.{total_is}
 use Rattle.ring_core.proofs.ListRing.{value, add_in, neg_in, coeff-add, coeff-neg}
 use Rattle.ring_core.proofs.PowerLaws.{power_in}
@@ -197,12 +197,12 @@ module _ {E B : Type 0} (r : RingOps E) (inv : E → Option E) (base : RingOps B
     eb : are_elems base b ≡ true
     eb = (and_parts _ _ pb.canonical).0
 
-    not_empty : (u : List B) → coeff base u (length u - 1) ≡ base.one → u ≢ []
-    not_empty u monic e = kb.one_ne_zero (sym monic ∙ ap (λ v. coeff base v (length v - 1)) e)
+    some : (u : List B) → coeff base u (length u - 1) ≡ base.one → u ≢ []
+    some u monic e = kb.one_ne_zero (sym monic ∙ ap (λ v. coeff base v (length v - 1)) e)
 
     same_length : length a ≡ length b
     same_length =
-        omega (arith, pa.least b pb.canonical (not_empty b pb.monic) pb.root, pb.least a pa.canonical (not_empty a pa.monic) pa.root)
+        omega (arith, pa.least b pb.canonical (some b pb.monic) pb.root, pb.least a pa.canonical (some a pa.monic) pa.root)
 
     abbrev negative : List B
     negative = list_neg base b
@@ -239,39 +239,26 @@ module _ {E B : Type 0} (r : RingOps E) (inv : E → Option E) (base : RingOps B
         ap (λ y. y.0) (rest_is i) ∙ ap (λ y. base.add y (base.neg (coeff base b i))) (same_high i high)
         ∙ kb.ring.add_neg (coeff base b i) (value base kb.ring b eb i).1
 
-    shorter : rest ≢ [] → length rest < length a
-    shorter some =
-        ⊎_elim
-        (λ (low : length rest < length a). low)
-        (λ (high : length a ≤ length rest).
-        absurd
-        (top_nonzero base kb.ring.closed.zero_in kb.ring.equal rest (and_parts _ _ rest_canonical).1 some
-        (rest_high (length rest - 1) (omega arith))))
-        (cases_lt (length rest) (length a))
+    shorter : length rest < length a
+    shorter = length_below base kb.ring rest (length a) (has_members a (some a pa.monic)) (and_parts _ _ rest_canonical).1 rest_high
 
-    rest_root : length rest ≤ length a → base_value r base f.embed rest x ≡ r.zero
-    rest_root short =
+    rest_root : base_value r base f.embed rest x ≡ r.zero
+    rest_root =
         let over = is_over r inv base base_inv f k kb l in
         let embedding = embedded r inv base base_inv f k kb l in
         let tuple = coords r inv base base_inv f k kb l in
         sym (sum_is rest er)
         ∙ ap (λ y. y.0)
-        (sym (weighted_more S R embedding tuple over powers (length rest) (length a) (value base kb.ring rest er) short (past_end rest er))
+        (sym (weighted_more S R embedding tuple over powers (length rest) (length a) (value base kb.ring rest er) (omega (arith, shorter)) (past_end rest er))
         ∙ difference_zero S R embedding tuple over powers (length a) (value base kb.ring a ea) (value base kb.ring b eb) (value base kb.ring rest er)
         (λ i. ap (λ y. S.add y (value base kb.ring b eb i)) (rest_is i) ∙ minus_plus S (value base kb.ring a ea i) (value base kb.ring b eb i))
         (sum_of_root a ea pa.root)
         (ap (λ n. sum n (value base kb.ring b eb)) same_length ∙ sum_of_root b eb pb.root))
 
-    no_rest : rest ≢ [] → ⊥
-    no_rest some =
-        let low = shorter some in
-        let least = pa.least rest rest_canonical some (rest_root (omega (arith, low))) in
-        omega (arith, low, least)
-
     rest_empty : rest ≡ []
     rest_empty =
         ⊎_elim
-        (λ (some : 0 < length rest). absurd (no_rest (λ e. let none : length rest ≡ 0 = ap length e in omega (arith, some, none))))
+        (λ (more : 0 < length rest). absurd (omega (arith, shorter, pa.least rest rest_canonical (not_empty rest more) rest_root)))
         (λ (none : length rest ≤ 0). nil_from_length rest (omega (arith, none)))
         (cases_lt 0 (length rest))
 

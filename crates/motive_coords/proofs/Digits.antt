@@ -1,28 +1,13 @@
--- Expansions in powers of an element `b` of a ring: each element is in exactly one way a sum of digits times
--- powers of `b`, where division by `b` on the right leaves a digit.
-use Rattle.std.proofs.Common.{◌≡◌, ℕ, zero, suc, ◌+◌, ◌-◌, ◌<◌, ◌≤◌, refl, sym, ◌∙◌, ap, ap₂, arith, subst}
-use Rattle.ring_core.proofs.Carrier.{RingOn, add_zero, add_cancel, add_exchange, mul_zero, zero_mul, neg_mul, minus_same, add_swap}
+-- Expansions in powers of an element `b` of a ring with sizes, not a constant: each element is in exactly one way
+-- a sum of digits times powers of `b`, where the digits are the elements that are smaller than `b`.
+use Rattle.std.proofs.Common.{◌≡◌, ℕ, zero, suc, ◌+◌, ◌-◌, ◌<◌, ◌≤◌, max, inl, inr, refl, sym, ◌∙◌, ap, ap₂, arith}
+use Rattle.std.proofs.lemmas.Bool.{cases_lt}
+use Rattle.ring_core.proofs.Carrier.{RingOn, add_zero, add_exchange, mul_zero, zero_mul, from_sum}
 use Rattle.ring_core.proofs.Series.{total, total_first}
 use Rattle.linear_algebra.proofs.Sums.{total_same, total_right}
+use Rattle.euclid_theory.proofs.Sizes.{HasSizes, Divided, divide, minus_small, quotients_same}
 use Rattle.relation_theory.proofs.Gauss.{at_each}
 use Rattle.relation_theory.proofs.Relations.{before}
-
--- `u` is `quotient b` and a digit, and the quotient is smaller where it isn't zero.
-pub record DigitDivision {N : Type 0} (S : RingOn N) (size : N → ℕ) (Digit : N → Type 0) (b u : N) : Type 0 where
-  pub quotient : N
-  pub rest : N
-  pub is : u ≡ S.add (S.mul quotient b) rest
-  pub digit : Digit rest
-  pub smaller : size quotient ≤ size u - 1
-
--- Division by `b` on the right leaves digits, which are a group, and no digit but zero is a multiple of `b`.
-pub record IsBase {N : Type 0} (S : RingOn N) (size : N → ℕ) (Digit : N → Type 0) (b : N) : Type 0 where
-  pub zero_size : (u : N) → size u ≡ 0 → u ≡ S.zero
-  pub digit_zero : Digit S.zero
-  pub digit_add : (x y : N) → Digit x → Digit y → Digit (S.add x y)
-  pub digit_neg : (x : N) → Digit x → Digit (S.neg x)
-  pub divide : (u : N) → DigitDivision S size Digit b u
-  pub none : (q : N) → Digit (S.mul q b) → q ≡ S.zero
 
 module _ {N : Type 0} (S : RingOn N) (b : N) where
   -- The sum of `x j b^j` over `j` below `n`, by Horner's rule.
@@ -79,23 +64,39 @@ module _ {N : Type 0} (S : RingOn N) (b : N) where
       ∙ total_right S n b (λ j. S.mul (x (suc j)) (power j)) ∙ ap (λ t. S.mul t b) (expanded_powers power first next n (λ j. x (suc j))))
       ∙ S.add_comm _ _
 
-module _ {N : Type 0} (S : RingOn N) (size : N → ℕ) (Digit : N → Type 0) (b : N) (h : IsBase S size Digit b) where
+module _ {N : Type 0} (S : RingOn N) (size : N → ℕ) (h : HasSizes S size) (b : N) (d : ℕ) (degree : size b ≡ suc d) (pos : 1 ≤ d) where
+  -- the quotient by an element that isn't a constant is smaller
+  pub quotient_smaller : (u q v : N) → u ≡ S.add (S.mul q b) v → size v ≤ d → size q ≤ size u - 1
+  quotient_smaller u q v e low = elim (cases_lt 0 (size q)) [
+    | inr none ↦ omega (arith, none)
+    | inl some ↦
+        let same : size (S.mul q b) ≡ size (S.add u (S.neg v)) = ap size (from_sum S (S.mul q b) v u (sym e)) in
+        let m = minus_small S size h u v (max (size u) d) (omega arith) (omega (arith, low)) in
+        omega (arith, m, same, h.product q b some (omega (arith, degree)), degree, pos)
+  ]
+
+  division : (u : N) → Divided S size u b
+  division u = divide S size h (suc (size u)) u b (omega arith) (omega (arith, degree))
+
+  rest_low : (u : N) → size (division u).rest ≤ d
+  rest_low u = let l = (division u).lower in omega (arith, l, degree)
+
   digit_from : ℕ → N → ℕ → N
   digit_from zero u j = S.zero
-  digit_from (suc n) u zero = (h.divide u).rest
-  digit_from (suc n) u (suc j) = digit_from n (h.divide u).quotient j
+  digit_from (suc n) u zero = (division u).rest
+  digit_from (suc n) u (suc j) = digit_from n (division u).quotient j
 
   -- The digits of `u`.
   pub digits : N → ℕ → N
   digits u = digit_from (size u) u
 
-  digit_in : (n : ℕ) (u : N) (j : ℕ) → Digit (digit_from n u j)
+  digit_in : (n : ℕ) (u : N) (j : ℕ) → size (digit_from n u j) ≤ d
   unfolding digit_from
-  digit_in zero u j = h.digit_zero
-  digit_in (suc n) u zero = (h.divide u).digit
-  digit_in (suc n) u (suc j) = digit_in n (h.divide u).quotient j
+  digit_in zero u j = let e = h.none in omega (arith, e)
+  digit_in (suc n) u zero = rest_low u
+  digit_in (suc n) u (suc j) = digit_in n (division u).quotient j
 
-  pub digits_in : (u : N) (j : ℕ) → Digit (digits u j)
+  pub digits_in : (u : N) (j : ℕ) → size (digits u j) ≤ d
   unfolding digits
   digits_in u j = digit_in (size u) u j
 
@@ -103,7 +104,7 @@ module _ {N : Type 0} (S : RingOn N) (size : N → ℕ) (Digit : N → Type 0) (
   unfolding digit_from
   digit_past zero u j l = refl
   digit_past (suc n) u zero l = absurd (omega arith)
-  digit_past (suc n) u (suc j) l = digit_past n (h.divide u).quotient j (omega arith)
+  digit_past (suc n) u (suc j) l = digit_past n (division u).quotient j (omega arith)
 
   pub digits_past : (u : N) (j : ℕ) → size u ≤ j → digits u j ≡ S.zero
   unfolding digits
@@ -111,12 +112,12 @@ module _ {N : Type 0} (S : RingOn N) (size : N → ℕ) (Digit : N → Type 0) (
 
   digit_expanded : (n : ℕ) (u : N) → size u ≤ n → expanded S b n (digit_from n u) ≡ u
   unfolding digit_from
-  digit_expanded zero u l = ap (λ t. t) (expanded_zero S b 0 _ (λ j. refl)) ∙ sym (h.zero_size u (omega arith))
+  digit_expanded zero u l = ap (λ t. t) (expanded_zero S b 0 _ (λ j. refl)) ∙ sym (h.empty u (omega arith))
   digit_expanded (suc n) u l =
-      let d = h.divide u in
-      let s = d.smaller in
+      let q = division u in
+      let s = quotient_smaller u q.quotient q.rest q.sum (rest_low u) in
       expanded_first S b n (digit_from (suc n) u)
-      ∙ ap (λ t. S.add (S.mul t b) d.rest) (digit_expanded n d.quotient (omega (arith, l, s))) ∙ sym d.is
+      ∙ ap (λ t. S.add (S.mul t b) q.rest) (digit_expanded n q.quotient (omega (arith, l, s))) ∙ sym q.sum
 
   -- u is the sum of its digits times powers of b
   pub digits_expanded : (u : N) (n : ℕ) → size u ≤ n → expanded S b n (digits u) ≡ u
@@ -125,25 +126,11 @@ module _ {N : Type 0} (S : RingOn N) (size : N → ℕ) (Digit : N → Type 0) (
       expanded_more S b (size u) n (digit_from (size u) u) l (digits_past u) ∙ digit_expanded (size u) u (omega arith)
 
   -- s b + x = t b + y for digits x and y only where both parts are equal
-  same_parts : (s t x y : N) → Digit x → Digit y → S.add (S.mul s b) x ≡ S.add (S.mul t b) y → (s ≡ t) × (x ≡ y)
-  same_parts s t x y dx dy same = (rest, add_cancel S (S.mul t b) x y (ap (λ z. S.add (S.mul z b) x) (sym rest) ∙ same))
-    where
-      moved : (p q u v : N) → S.add p q ≡ S.add u v → S.add v (S.neg q) ≡ S.add p (S.neg u)
-      moved p q u v f =
-          add_cancel S (S.add u q) (S.add v (S.neg q)) (S.add p (S.neg u))
-          (S.add_assoc u q _ ∙ ap (S.add u) (add_swap S q v (S.neg q) ∙ ap (S.add v) (S.add_neg q) ∙ add_zero S v) ∙ sym f
-          ∙ sym (ap (λ z. S.add z (S.add p (S.neg u))) (S.add_comm u q) ∙ S.add_assoc q u _
-          ∙ ap (S.add q) (add_swap S u p (S.neg u) ∙ ap (S.add p) (S.add_neg u) ∙ add_zero S p) ∙ S.add_comm q p))
-
-      apart : S.mul (S.add s (S.neg t)) b ≡ S.add y (S.neg x)
-      apart =
-          S.add_mul s (S.neg t) b ∙ ap (S.add (S.mul s b)) (neg_mul S t b) ∙ sym (moved (S.mul s b) x (S.mul t b) y same)
-
-      rest : s ≡ t
-      rest = minus_same S s t (h.none (S.add s (S.neg t)) (subst Digit (sym apart) (h.digit_add y (S.neg x) dy (h.digit_neg x dx))))
+  same_parts : (s t x y : N) → size x ≤ d → size y ≤ d → S.add (S.mul s b) x ≡ S.add (S.mul t b) y → (s ≡ t) × (x ≡ y)
+  same_parts s t x y dx dy same = quotients_same S size h b s t x y same (omega (arith, dx, degree)) (omega (arith, dy, degree))
 
   -- two expansions of one element are equal
-  pub expanded_only : (n : ℕ) (x y : ℕ → N) → ((j : ℕ) → Digit (x j)) → ((j : ℕ) → Digit (y j)) → expanded S b n x ≡ expanded S b n y → (j : ℕ) → j < n → x j ≡ y j
+  pub expanded_only : (n : ℕ) (x y : ℕ → N) → ((j : ℕ) → size (x j) ≤ d) → ((j : ℕ) → size (y j) ≤ d) → expanded S b n x ≡ expanded S b n y → (j : ℕ) → j < n → x j ≡ y j
   expanded_only zero x y dx dy e j l = absurd (omega arith)
   expanded_only (suc n) x y dx dy e zero l =
       (same_parts _ _ (x 0) (y 0) (dx 0) (dy 0) (sym (expanded_first S b n x) ∙ e ∙ expanded_first S b n y)).1
@@ -152,7 +139,7 @@ module _ {N : Type 0} (S : RingOn N) (size : N → ℕ) (Digit : N → Type 0) (
       (same_parts _ _ (x 0) (y 0) (dx 0) (dy 0) (sym (expanded_first S b n x) ∙ e ∙ expanded_first S b n y)).0 j (omega arith)
 
   -- the digits of u are those of any expansion of it
-  pub digits_only : (u : N) (n : ℕ) (x : ℕ → N) → ((j : ℕ) → Digit (x j)) → ((j : ℕ) → n ≤ j → x j ≡ S.zero) → expanded S b n x ≡ u → (j : ℕ) → digits u j ≡ x j
+  pub digits_only : (u : N) (n : ℕ) (x : ℕ → N) → ((j : ℕ) → size (x j) ≤ d) → ((j : ℕ) → n ≤ j → x j ≡ S.zero) → expanded S b n x ≡ u → (j : ℕ) → digits u j ≡ x j
   digits_only u n x dx past e j =
       let m = size u + n + suc j in
       expanded_only m (digits u) x (digits_in u) dx
@@ -161,7 +148,7 @@ module _ {N : Type 0} (S : RingOn N) (size : N → ℕ) (Digit : N → Type 0) (
   pub digits_add : (u v : N) (j : ℕ) → digits (S.add u v) j ≡ S.add (digits u j) (digits v j)
   digits_add u v =
       let n = size u + size v in
-      digits_only (S.add u v) n (λ j. S.add (digits u j) (digits v j)) (λ j. h.digit_add _ _ (digits_in u j) (digits_in v j))
+      digits_only (S.add u v) n (λ j. S.add (digits u j) (digits v j)) (λ j. h.sum _ _ d (digits_in u j) (digits_in v j))
       (λ j l. ap₂ S.add (digits_past u j (omega arith)) (digits_past v j (omega arith)) ∙ S.zero_add S.zero)
       (expanded_add S b n (digits u) (digits v) ∙ ap₂ S.add (digits_expanded u n (omega arith)) (digits_expanded v n (omega arith)))
 
@@ -169,12 +156,12 @@ module _ {N : Type 0} (S : RingOn N) (size : N → ℕ) (Digit : N → Type 0) (
   pub digits_shift : (u : N) (j : ℕ) → digits (S.mul u b) j ≡ before S.zero (digits u) j
   digits_shift u =
       let n = size u in
-      digits_only (S.mul u b) (suc n) (before S.zero (digits u)) (at_each (λ j. Digit (before S.zero (digits u) j)) h.digit_zero (digits_in u))
+      digits_only (S.mul u b) (suc n) (before S.zero (digits u)) (at_each (λ j. size (before S.zero (digits u) j) ≤ d) (let e = h.none in omega (arith, e)) (digits_in u))
       (at_each (λ j. suc n ≤ j → before S.zero (digits u) j ≡ S.zero) (λ l. refl) (λ j l. digits_past u j (omega arith)))
       (expanded_first S b n (before S.zero (digits u)) ∙ ap (λ t. S.add (S.mul t b) S.zero) (digits_expanded u n (omega arith)) ∙ add_zero S _)
 
   -- multiplication on the left by an element that keeps digits
-  pub digits_left : (c u : N) → ((x : N) → Digit x → Digit (S.mul c x)) → (j : ℕ) → digits (S.mul c u) j ≡ S.mul c (digits u j)
+  pub digits_left : (c u : N) → ((x : N) → size x ≤ d → size (S.mul c x) ≤ d) → (j : ℕ) → digits (S.mul c u) j ≡ S.mul c (digits u j)
   digits_left c u keeps =
       let n = size u in
       digits_only (S.mul c u) n (λ j. S.mul c (digits u j)) (λ j. keeps _ (digits_in u j))

@@ -1,26 +1,24 @@
 -- Expansions as lists: a step of the loop, and the columns of an expansion as motive coordinates.
-use Rattle.std.proofs.Common.{◌≡◌, ℕ, zero, suc, ◌+◌, ◌-◌, ◌<◌, ◌≤◌, inl, inr, Option, true, List, [], ◌∷◌, ◌++◌, length, refl, sym, ◌∙◌, ap, ap₂, arith, subst}
-use Rattle.std.proofs.lemmas.Bool.{and_parts, cases_lt}
+use Rattle.std.proofs.Common.{◌≡◌, ℕ, zero, suc, ◌+◌, ◌-◌, ◌<◌, ◌≤◌, Option, true, List, [], ◌∷◌, ◌++◌, length, refl, sym, ◌∙◌, ap, ap₂, arith, subst}
 use Rattle.std.proofs.lemmas.List.{length-append, get_or_append_left, get_or-append_right, nil_from_length}
-use Rattle.ring_core.specs.Ring.{RingOps, IsElem, IsRing}
+use Rattle.ring_core.specs.Ring.{RingOps, IsRing}
 use Rattle.ring_core.specs.Field.{IsField, FrobOps, IsFrobField}
 use Rattle.ring_core.specs.Coeffs.{coeff, are_elems, is_canonical, first_values}
 use Rattle.ring_core.specs.Powers.{power_of}
 use Rattle.ring_core.specs.Twisted.{twisted_ops, list_mul, list_add}
 use Rattle.ring_core.proofs.Carrier.{RingOn, Element, same_element, add_zero, zero_mul}
 use Rattle.ring_core.proofs.Series.{total}
-use Rattle.ring_core.proofs.Coefficients.{coeff_past, elem_read, elems_push, elems-first_values, length-trim, coeff-list_of, canonical-list_of}
-use Rattle.ring_core.proofs.FirstValues.{length-first_values, at-first_values}
+use Rattle.ring_core.proofs.Coefficients.{coeff_past, elem_read, elems_push}
 use Rattle.ring_core.proofs.Twist.{total_is, sum_same}
 use Rattle.ring_core.proofs.ListRing.{frob_ring}
 use Rattle.linear_algebra.proofs.Sums.{total_same}
 use Rattle.finite_ring.proofs.Powers.{power}
-use Rattle.motive_coords.proofs.Digits.{expanded_powers}
+use Rattle.motive_coords.proofs.Digits.{expanded_powers, quotient_smaller}
 use Rattle.euclid_theory.proofs.OreSizes.{ore_sizes}
 use Rattle.ore_divide.specs.Division.{IsRightDivision}
 use Rattle.motive_coords.specs.Motive.{IsMotive}
-use Rattle.motive_coords.proofs.Ores.{twisted, parts, parts_past, quotient_smaller, twisted_same}
-use Rattle.motive_coords.proofs.MotiveValue.{value_digits, power_is, value_list, value_of, list_size, list_past, members, gathered, gathered_part, gathered_past}
+use Rattle.motive_coords.proofs.Ores.{twisted}
+use Rattle.motive_coords.proofs.MotiveValue.{power_is, motive_of_digits}
 use Rattle.motive_coords.specs.steps.Expansion.{IsExpansion, expansion, column_at}
 
 -- the power's factor on the other side
@@ -149,57 +147,9 @@ module _ {E B : Type 0} (r : RingOps E) (inv : E → Option E) (base : RingOps B
 
     -- The columns of an expansion are the motive coordinates.
     pub motive_from : (u : List E) (digits : List (List E)) → is_canonical r u ≡ true → IsExpansion r f.frob phi u digits → IsMotive r f.frob phi u (first_values (length phi - 1) (column_at r f.frob digits))
-    motive_from u digits cu part = record {
-      count = length-first_values _ _;
-      elems = inside;
-      is = part.is ∙ sym (expansion_is digits part.elems n) ∙ ap (λ t. t.0) same ∙ value_list r inv base f k l b d degree pos list inside (length-first_values _ _);
-    }
-      where
-        d : ℕ
-        d = length phi - 1
-
-        n : ℕ
-        n = length digits
-
-        degree : length phi ≡ suc d
-        degree = omega (arith, long)
-
-        pos : 1 ≤ d
-        pos = omega (arith, long)
-
-        list : List (List E)
-        list = first_values (length phi - 1) (column_at r f.frob digits)
-
-        member_in : (i j : ℕ) → IsElem r (coeff r (coeff s digits j) i)
-        member_in i j = elem_read r _ k.ring.closed.zero_in (and_parts _ _ (elem_read s digits refl part.elems j)).0 i
-
-        inside : are_elems (twisted_ops r (λ c i. c)) list ≡ true
-        inside = elems-first_values (twisted_ops r (λ c i. c)) d (column_at r f.frob digits) (λ i _. canonical-list_of r n _ (λ j _. member_in i j))
-
-        column_is : (i : ℕ) → i < d → coeff (twisted_ops r (λ c i. c)) list i ≡ column_at r f.frob digits i
-        column_is i m = at-first_values d (column_at r f.frob digits) i [] m
-
-        c : ℕ → ℕ → Element r
-        c = members r inv base f k l b d degree pos list inside
-
-        c_is : (i : ℕ) → i < d → (j : ℕ) → c i j ≡ parts r inv base f k l (listed digits part.elems j) i
-        c_is i m j = same_element r _ _
-            (ap (λ t. coeff r t j) (column_is i m)
-            ∙ coeff-list_of r k.ring.closed.zero_in k.ring.equal n _ (member_in i) (λ e g. ap (λ t. coeff r t i) (coeff_past s digits e g)) j)
-
-        size_is : (i : ℕ) → i < d → list_size r inv base f k l b d degree pos list inside i ≤ n
-        size_is i m = let e : length (coeff (twisted_ops r (λ c i. c)) list i) ≡ length (column_at r f.frob digits i) = ap length (column_is i m) in
-            let g = length-trim r (first_values n (λ j. coeff r (coeff s digits j) i)) in
-            let z : length (first_values n (λ j. coeff r (coeff s digits j) i)) ≡ n = length-first_values n _ in omega (arith, e, g, z)
-
-        digits_same : (j : ℕ) → listed digits part.elems j ≡ gathered r inv base f k l d (λ i. c i j)
-        digits_same j = twisted_same r inv base f k l _ _ (λ i. elim (cases_lt i d) [
-          | inl m ↦ sym (c_is i m j) ∙ sym (gathered_part r inv base f k l d (λ q. c q j) i m)
-          | inr m ↦ parts_past r inv base f k l (listed digits part.elems j) i (let low = part.lower j in omega (arith, low, m, long)) ∙ sym (gathered_past r inv base f k l d (λ q. c q j) i m)
-        ])
-
-        same : total S n (λ j. S.mul (listed digits part.elems j) (power S b j)) ≡ value_of r inv base f k l b d degree pos c (list_size r inv base f k l b d degree pos list inside) (list_past r inv base f k l b d degree pos list inside)
-        same =
-            total_same S n _ _ (λ j _. ap (λ t. S.mul t (power S b j)) (digits_same j))
-            ∙ expanded_powers S b (power S b) refl (λ j. refl) n (λ j. gathered r inv base f k l d (λ i. c i j))
-            ∙ sym (value_digits r inv base f k l b d degree pos c (list_size r inv base f k l b d degree pos list inside) (list_past r inv base f k l b d degree pos list inside) n size_is)
+    motive_from u digits cu part =
+        motive_of_digits r inv base f k l b (length phi - 1) (omega (arith, long)) (omega (arith, long)) (u, cu) (length digits) (listed digits part.elems)
+        (λ j. let low = part.lower j in omega (arith, low))
+        (λ j m. same_element (twisted_ops r f.frob) (listed digits part.elems j) S.zero (coeff_past s digits j m))
+        (sym (expanded_powers S b (power S b) refl (λ j. refl) (length digits) (listed digits part.elems))
+        ∙ same_element (twisted_ops r f.frob) _ (u, cu) (expansion_is digits part.elems (length digits) ∙ sym part.is))

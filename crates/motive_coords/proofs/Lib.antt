@@ -1,4 +1,5 @@
 pub mod Digits
+pub mod Readings
 pub mod Ores
 pub mod Multiples
 pub mod MotiveValue

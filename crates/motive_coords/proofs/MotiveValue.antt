@@ -1,25 +1,28 @@
 -- The motive coordinates of `u` are the coefficients of its digits in powers of the image of T.
 use Rattle.std.proofs.Common.{◌≡◌, ◌≢◌, ℕ, zero, suc, ◌<◌, ◌≤◌, inl, inr, Option, true, max, List, [], length, refl, sym, ◌∙◌, ap, arith, ext_get_or}
-use Rattle.std.proofs.lemmas.Bool.{and_parts}
+use mathlib.Core.Path.{fun_ext}
+use Rattle.std.proofs.lemmas.Bool.{and_parts, cases_lt}
 use Rattle.std.proofs.lemmas.List.{nil_from_length}
 use Rattle.ring_core.specs.Ring.{RingOps}
 use Rattle.ring_core.specs.Field.{IsField, FrobOps, IsFrobField}
-use Rattle.ring_core.specs.Coeffs.{coeff, sum_below, are_elems}
+use Rattle.ring_core.specs.Coeffs.{coeff, sum_below, are_elems, first_values, list_of}
 use Rattle.ring_core.specs.Powers.{power_of}
 use Rattle.ring_core.specs.Twisted.{twisted_ops, list_mul}
 use Rattle.ring_core.specs.Monomial.{monomial}
 use Rattle.ring_core.proofs.Carrier.{RingOn, Element, same_element, zero_mul}
 use Rattle.ring_core.proofs.Series.{total}
-use Rattle.ring_core.proofs.Coefficients.{coeff_past, elem_read, same_coeffs}
+use Rattle.ring_core.proofs.Coefficients.{coeff_past, elem_read, same_coeffs, coeff-list_of, canonical-list_of, elems-first_values}
+use Rattle.ring_core.proofs.FirstValues.{length-first_values, at-first_values}
 use Rattle.ring_core.proofs.Twist.{total_is, sum_same}
-use Rattle.ring_core.proofs.ListRing.{frob_ring}
+use Rattle.ring_core.proofs.ListRing.{frob_ring, length-list_of}
 use Rattle.ring_core.proofs.Monomial.{coeff-monomial_same, coeff-monomial_other}
 use Rattle.linear_algebra.proofs.Sums.{total_same, total_add, total_zero, total_right, total_rest, total_single, same_or_other}
+use Rattle.euclid_theory.proofs.OreSizes.{ore_sizes}
 use Rattle.relation_theory.proofs.PolyEuclid.{scalars}
-use Rattle.motive_coords.proofs.Digits.{expanded, expanded_powers, digits, digits_only}
+use Rattle.motive_coords.proofs.Digits.{expanded, expanded_powers, digits_only}
 use Rattle.finite_ring.proofs.Powers.{power}
 use Rattle.motive_coords.specs.Motive.{motive_value, IsMotive}
-use Rattle.motive_coords.proofs.Ores.{twisted, parts, parts_past, parts_add, length_from, single, Digit, is_base}
+use Rattle.motive_coords.proofs.Ores.{twisted, parts, parts_past, parts_add, length_from, single, twisted_same, digit}
 
 -- A bound of the first values.
 most : ℕ → (ℕ → ℕ) → ℕ
@@ -150,12 +153,12 @@ module _ {E B : Type 0} (r : RingOps E) (inv : E → Option E) (base : RingOps B
       value_is = value_list list s.elems (let e = s.count in omega (arith, e, degree)) ∙ sym s.is
 
       -- the digits of u
-      pub motive_digits : (j i : ℕ) → i < d → part (digits S (λ x. length x.0) (Digit r inv base f k l b d degree) b (is_base r inv base f k l b d degree pos) u j) i ≡ members list s.elems i j
+      pub motive_digits : (j i : ℕ) → i < d → part (digit r inv base f k l b d degree pos u j) i ≡ members list s.elems i j
       unfolding c gathered
       motive_digits j i m =
           let n = most d size in
           ap (λ t. part t i)
-          (digits_only S (λ x. length x.0) (Digit r inv base f k l b d degree) b (is_base r inv base f k l b d degree pos) u n (digit_of c size c_past)
+          (digits_only S (λ x. length x.0) (ore_sizes r inv base f k l) b d degree pos u n (digit_of c size c_past)
           (λ e. length_from r inv base f k l (gathered d (λ q. c q e)) d (gathered_past d (λ q. c q e)))
           (λ e a. digit_zero e a)
           (sym (value_digits c size c_past n (most_bounds d size)) ∙ same_element (twisted_ops r f.frob) _ _ value_is) j)
@@ -173,3 +176,44 @@ module _ {E B : Type 0} (r : RingOps E) (inv : E → Option E) (base : RingOps B
         let cy = elem_read (twisted_ops r (λ c i. c)) y refl t.elems i in
         same_coeffs r k.ring.closed.zero_in k.ring.equal _ _ (and_parts _ _ cx).1 (and_parts _ _ cy).1 (λ j.
         ap (λ q. q.0) (sym (motive_digits u x s j i low) ∙ motive_digits u y t j i low)))
+
+    -- The columns of digits that give `u` are its motive coordinates.
+    module _ (u : Element (twisted_ops r f.frob)) (n : ℕ) (digits : ℕ → Element (twisted_ops r f.frob)) (short : (j : ℕ) → length (digits j).0 ≤ d)
+        (none : (j : ℕ) → n ≤ j → digits j ≡ S.zero) (sums : expanded S b n digits ≡ u) where
+      abbrev column : ℕ → List E
+      column i = list_of r n (λ j. (part (digits j) i).0)
+
+      abbrev columns : List (List E)
+      columns = first_values d column
+
+      inside : are_elems (twisted_ops r (λ c i. c)) columns ≡ true
+      inside =
+          elems-first_values (twisted_ops r (λ c i. c)) d column (λ i _. canonical-list_of r n _ (λ j _. (part (digits j) i).1))
+
+      column_is : (i : ℕ) → i < d → coeff (twisted_ops r (λ c i. c)) columns i ≡ column i
+      column_is i m = at-first_values d column i [] m
+
+      digit_is : (j : ℕ) → digits j ≡ gathered d (λ i. members columns inside i j)
+      digit_is j = twisted_same r inv base f k l (digits j) (gathered d (λ i. members columns inside i j)) (λ i. elim (cases_lt i d) [
+        | inl m ↦
+            sym (gathered_part d (λ i. members columns inside i j) i m
+            ∙ same_element r _ (part (digits j) i)
+            (ap (λ t. coeff r t j) (column_is i m)
+            ∙ coeff-list_of r k.ring.closed.zero_in k.ring.equal n _ (λ e. (part (digits e) i).1) (λ e far. ap (λ t. coeff r t.0 i) (none e far)) j))
+        | inr m ↦
+            parts_past r inv base f k l (digits j) i (let low = short j in omega (arith, low, m)) ∙ sym (gathered_past d (λ i. members columns inside i j) i m)
+      ])
+
+      pub motive_of_digits : IsMotive r f.frob b.0 u.0 (first_values d (λ i. list_of r n (λ j. (parts r inv base f k l (digits j) i).0)))
+      motive_of_digits = record {
+        count = let e = length-first_values d column in omega (arith, e, degree);
+        elems = inside;
+        is =
+            ap (λ (t : Element (twisted_ops r f.frob)). t.0)
+            (sym sums ∙ ap (expanded S b n) (fun_ext digit_is)
+            ∙ sym (value_digits (members columns inside) (list_size columns inside) (list_past columns inside) n (λ i m.
+            let e : length (coeff (twisted_ops r (λ c i. c)) columns i) ≡ length (column i) = ap length (column_is i m) in
+            let low = length-list_of r n (λ j. (part (digits j) i).0) in
+            omega (arith, e, low))))
+            ∙ value_list columns inside (length-first_values d column);
+      }

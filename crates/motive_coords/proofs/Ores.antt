@@ -1,49 +1,20 @@
--- Twisted polynomials as elements of their ring: their coefficients, and the digits to a base that isn't a constant.
-use Rattle.std.proofs.Common.{◌≡◌, ℕ, suc, ◌-◌, ◌≤◌, inl, inr, Option, true, List, [], ◌∷◌, length, sym, ◌∙◌, ap, arith}
+-- Twisted polynomials as elements of their ring: their coefficients, and their digits.
+use Rattle.std.proofs.Common.{◌≡◌, ℕ, suc, ◌-◌, ◌≤◌, inl, inr, Option, true, List, [], ◌∷◌, length, ◌∙◌, ap, arith}
 use Rattle.std.proofs.lemmas.Bool.{and_parts, cases_lt}
 use Rattle.ring_core.specs.Ring.{RingOps}
 use Rattle.ring_core.specs.Field.{IsField, FrobOps, IsFrobField}
 use Rattle.ring_core.specs.Coeffs.{coeff, is_trimmed}
 use Rattle.ring_core.specs.Twisted.{twisted_ops}
 use Rattle.ring_core.specs.Monomial.{monomial}
-use Rattle.ring_core.proofs.Carrier.{RingOn, Element, same_element, from_sum, mul_zero}
+use Rattle.ring_core.proofs.Carrier.{RingOn, Element, same_element, mul_zero}
 use Rattle.ring_core.proofs.Coefficients.{coeff_past, same_coeffs}
 use Rattle.ring_core.proofs.Twist.{frob_twist}
 use Rattle.ring_core.proofs.ListRing.{value, coeff-add, coeff-mul}
 use Rattle.ring_core.proofs.Monomial.{monomial_in, monomial_product}
 use Rattle.ring_core.proofs.Degrees.{top_nonzero}
-use Rattle.euclid_theory.proofs.Sizes.{HasSizes, minus_small, no_multiple, divide}
 use Rattle.euclid_theory.proofs.OreSizes.{ores, ore_sizes}
 use Rattle.relation_theory.proofs.PolyEuclid.{scalars}
-use Rattle.motive_coords.proofs.Digits.{IsBase}
-
-module _ {M : Type 0} (R : RingOn M) (size : M → ℕ) (h : HasSizes R size) (b : M) (d : ℕ) (degree : size b ≡ suc d) (pos : 1 ≤ d) where
-  -- the quotient by an element that isn't a constant is smaller
-  pub quotient_smaller : (u q v : M) → u ≡ R.add (R.mul q b) v → size v ≤ d → size q ≤ size u - 1
-  quotient_smaller u q v e low = elim (cases_lt 0 (size q)) [
-    | inr none ↦ omega (arith, none)
-    | inl some ↦
-        let product = h.product q b some (omega (arith, degree)) in
-        let same : size (R.mul q b) ≡ size (R.add u (R.neg v)) = ap size (from_sum R (R.mul q b) v u (sym e)) in
-        elim (cases_lt d (size u)) [
-          | inl l ↦ let m = minus_small R size h u v (size u) (omega arith) (omega (arith, low, l)) in omega (arith, m, same, product, degree, pos)
-          | inr l ↦ let m = minus_small R size h u v d (omega (arith, l)) low in omega (arith, m, same, product, degree, some)
-        ]
-  ]
-
-  -- The elements of less than that size are digits.
-  pub small_digits : IsBase R size (λ x. size x ≤ d) b
-  small_digits = record {
-    zero_size = h.empty;
-    digit_zero = let e = h.none in omega (arith, e);
-    digit_add = λ x y s t. h.sum x y d s t;
-    digit_neg = λ x s. let l = h.neg x in omega (arith, s, l);
-    divide = λ u.
-        let q = divide R size h (suc (size u)) u b (omega arith) (omega (arith, degree)) in
-        let low : size q.rest ≤ d = (let l = q.lower in omega (arith, l, degree)) in
-        record { quotient = q.quotient; rest = q.rest; is = q.sum; digit = low; smaller = quotient_smaller u q.quotient q.rest q.sum low };
-    none = λ q s. no_multiple R size h q b (omega (arith, s, degree));
-  }
+use Rattle.motive_coords.proofs.Digits.{digits}
 
 module _ {E B : Type 0} (r : RingOps E) (inv : E → Option E) (base : RingOps B) (f : FrobOps E B) (k : IsField r inv) (l : IsFrobField r base f) where
   -- The ring of twisted polynomials, on its elements.
@@ -104,11 +75,6 @@ module _ {E B : Type 0} (r : RingOps E) (inv : E → Option E) (base : RingOps B
       length_from (twisted.mul (single c 0) u) n (λ i m.
       scale_parts c u i ∙ ap ((scalars r inv k).mul c) (parts_past u i (omega (arith, s, m))) ∙ mul_zero (scalars r inv k) c)
 
-  -- `d` is the degree of `b`
-  module _ (b : Element (twisted_ops r f.frob)) (d : ℕ) (degree : length b.0 ≡ suc d) where
-    -- Of degree at most d - 1.
-    abbrev pub Digit : Element (twisted_ops r f.frob) → Type 0
-    Digit x = length x.0 ≤ d
-
-    abbrev pub is_base : 1 ≤ d → IsBase twisted (λ x. length x.0) Digit b
-    is_base pos = small_digits twisted (λ x. length x.0) (ore_sizes r inv base f k l) b d degree pos
+  -- Member `j` of the expansion of `u` in powers of `b`, whose degree is `d`.
+  abbrev pub digit : (b : Element (twisted_ops r f.frob)) (d : ℕ) → length b.0 ≡ suc d → 1 ≤ d → Element (twisted_ops r f.frob) → ℕ → Element (twisted_ops r f.frob)
+  digit b d degree pos = digits twisted (λ x. length x.0) (ore_sizes r inv base f k l) b d degree pos

@@ -1,53 +1,38 @@
 -- The coordinates of twisted polynomials over the polynomials in T: the base coordinates of their motive
 -- coordinates. Multiplication by the image of a polynomial on the right multiplies them by it.
-use Rattle.std.proofs.Common.{◌≡◌, ℕ, zero, suc, ◌+◌, ◌*◌, ◌/◌, ◌%◌, ◌<◌, ◌≤◌, inl, inr, Option, List, [], ◌∷◌, length, refl, sym, ◌∙◌, ap, ap₂, arith, subst, mod-lt, div-lt_iff_lt-mul}
+use Rattle.std.proofs.Common.{◌≡◌, ℕ, suc, ◌+◌, ◌*◌, ◌/◌, ◌%◌, ◌<◌, ◌≤◌, inl, inr, Option, List, [], ◌∷◌, length, sym, ◌∙◌, ap, ap₂, arith, subst, mod-lt, div-lt_iff_lt-mul}
 use Rattle.std.proofs.lemmas.Bool.{and_parts, cases_lt}
-use Rattle.std.proofs.lemmas.List.{nil_from_length}
 use Rattle.std.proofs.lemmas.Nat.{div-mul-add, mod-mul-add}
 use mathlib.Core.Path.{fun_ext}
 use Rattle.ring_core.specs.Ring.{RingOps}
 use Rattle.ring_core.specs.Field.{IsField, FrobOps, IsFrobField}
-use Rattle.ring_core.specs.Coeffs.{coeff, first_values, list_of}
-use Rattle.ring_core.proofs.Coefficients.{coeff_past, coeff-list_of, same_coeffs, trimmed-trim}
+use Rattle.ring_core.specs.Coeffs.{coeff, list_of}
+use Rattle.ring_core.proofs.Coefficients.{coeff_past}
 use Rattle.ring_core.proofs.FirstValues.{length-first_values, at-first_values}
 use Rattle.ring_core.specs.Twisted.{list_add, list_mul, twisted_ops}
 use Rattle.ring_core.specs.Monomial.{constant, tau_power}
-use Rattle.ring_core.proofs.Carrier.{RingOn, Element, same_element, add_zero, mul_zero, zero_only, minus_same}
-use Rattle.ring_core.specs.Powers.{power_of}
-use Rattle.ring_core.proofs.Series.{total, total_first}
+use Rattle.ring_core.proofs.Carrier.{RingOn, Element, same_element, zero_only, minus_same}
+use Rattle.ring_core.proofs.Series.{total}
 use Rattle.ring_core.proofs.Twist.{total_is, sum_same}
 use Rattle.ring_core.proofs.ListRing.{frob_ring}
 use Rattle.drinfeld_mod.specs.Image.{image}
 use Rattle.motive_coords.specs.Motive.{IsMotive}
 use Rattle.motive_coords.specs.OverT.{IsOverT, base_parts}
+use Rattle.euclid_theory.proofs.OreSizes.{ore_sizes}
+use Rattle.euclid_theory.proofs.Sizes.{HasSizes}
 use Rattle.motive_coords.proofs.Multiples.{constant_poly, constant_coeffs, letter_poly, letter_coeffs}
-use Rattle.motive_coords.proofs.MotiveValue.{motive_digits, motive_only, members}
+use Rattle.motive_coords.proofs.MotiveValue.{power_is, motive_digits, motive_only, members, list_past}
 use Rattle.ring_core.proofs.Monomial.{monomial_in}
 use Rattle.ring_core.proofs.Central.{tau_degree_central, base_central}
-use Rattle.linear_algebra.proofs.Sums.{total_left, total_zero, total_same}
-use Rattle.relation_theory.proofs.Gauss.{cauchy_product, product_zero}
+use Rattle.linear_algebra.proofs.Sums.{total_left, total_same}
+use Rattle.relation_theory.proofs.Gauss.{cauchy_product}
 use Rattle.relation_theory.proofs.Relations.{before}
-use Rattle.relation_theory.proofs.PolyEuclid.{scalars, polys, coeffs, coeffs_past, coeffs_add, coeffs_mul, poly_same, poly_of, coeffs_of}
-use Rattle.motive_coords.proofs.Digits.{IsBase, digits, digits_in, digits_past, digits_add, digits_shift, digits_left, digits_zero}
+use Rattle.relation_theory.proofs.PolyEuclid.{scalars, polys, coeffs, coeffs_past, coeffs_add, coeffs_mul, poly_same, poly_of, poly_of_list, coeffs_of}
+use Rattle.motive_coords.proofs.Digits.{digits_in, digits_zero}
+use Rattle.motive_coords.proofs.Readings.{shifts_product, at_past, at_add, at_total, at_left, at_shift, at_power}
 use Rattle.finite_ring.proofs.Powers.{power}
 use Rattle.relation_theory.proofs.PowerRelations.{IsCoordinates}
-use Rattle.motive_coords.proofs.Ores.{twisted, parts, parts_past, parts_add, length_from, single, scale_parts, scale_length, Digit, is_base}
-
--- `w` behind `i` zeros.
-abbrev pub moved_up : {M : Type 0} → RingOn M → ℕ → (ℕ → M) → ℕ → M
-moved_up R zero w = w
-moved_up R (suc i) w = before R.zero (moved_up R i w)
-
--- A product as the sum of the multiples of its right factor, each moved up.
-pub shifts_product : {M : Type 0} (R : RingOn M) (n : ℕ) (a w : ℕ → M) → ((i : ℕ) → n ≤ i → a i ≡ R.zero) → (e : ℕ) → total R n (λ i. R.mul (a i) (moved_up R i w e)) ≡ cauchy_product R a w e
-shifts_product R zero a w past e =
-    sym (product_zero R e a w (λ i. past i (omega arith)))
-shifts_product R (suc n) a w past zero =
-    total_first R n (λ i. R.mul (a i) (moved_up R i w 0))
-    ∙ ap (R.add (R.mul (a 0) (w 0))) (total_zero R n _ (λ i l. mul_zero R (a (suc i)))) ∙ add_zero R _
-shifts_product R (suc n) a w past (suc e) =
-    total_first R n (λ i. R.mul (a i) (moved_up R i w (suc e)))
-    ∙ ap (R.add (R.mul (a 0) (w (suc e)))) (shifts_product R n (λ i. a (suc i)) w (λ i l. past (suc i) (omega arith)) e)
+use Rattle.motive_coords.proofs.Ores.{twisted, parts, parts_past, parts_add, single, scale_parts, scale_length, twisted_same, digit}
 
 module _ {E B : Type 0} (r : RingOps E) (inv : E → Option E) (base : RingOps B) (binv : B → Option B) (f : FrobOps E B)
     (k : IsField r inv) (kb : IsField base binv) (l : IsFrobField r base f) where
@@ -67,20 +52,20 @@ module _ {E B : Type 0} (r : RingOps E) (inv : E → Option E) (base : RingOps B
   modulo q = mod-lt q (let p = l.degree_pos in omega (arith, p))
 
   -- The base coordinate of `c` at `q` modulo the degree.
-  place : Element r → ℕ → Element base
-  place c q = (f.coord c.0 (q % f.degree), l.coord_in c.0 (q % f.degree) c.1 (modulo q))
+  place : ℕ → Element r → Element base
+  place q c = (f.coord c.0 (q % f.degree), l.coord_in c.0 (q % f.degree) c.1 (modulo q))
 
-  place_add : (x y : Element r) (q : ℕ) → place (K.add x y) q ≡ F.add (place x q) (place y q)
+  place_add : (q : ℕ) (x y : Element r) → place q (K.add x y) ≡ F.add (place q x) (place q y)
   unfolding place
-  place_add x y q = same_element base _ _ (l.coord_add x.0 y.0 (q % f.degree) x.1 y.1 (modulo q))
+  place_add q x y = same_element base _ _ (l.coord_add x.0 y.0 (q % f.degree) x.1 y.1 (modulo q))
 
-  place_zero : (q : ℕ) → place K.zero q ≡ F.zero
-  place_zero q = zero_only F (place K.zero q) (sym (place_add K.zero K.zero q) ∙ ap (λ t. place t q) (K.zero_add K.zero))
+  place_zero : (q : ℕ) → place q K.zero ≡ F.zero
+  place_zero q = zero_only F (place q K.zero) (sym (place_add q K.zero K.zero) ∙ ap (place q) (K.zero_add K.zero))
 
   embed : Element base → Element r
   embed c = (f.embed c.0, l.embed_in c.0 c.1)
 
-  place_scale : (c : Element base) (x : Element r) (q : ℕ) → place (K.mul (embed c) x) q ≡ F.mul c (place x q)
+  place_scale : (c : Element base) (x : Element r) (q : ℕ) → place q (K.mul (embed c) x) ≡ F.mul c (place q x)
   unfolding place embed
   place_scale c x q = same_element base _ _ (l.coord_scale c.0 x.0 (q % f.degree) c.1 x.1 (modulo q))
 
@@ -88,9 +73,16 @@ module _ {E B : Type 0} (r : RingOps E) (inv : E → Option E) (base : RingOps B
   const : Element base → Element (twisted_ops r f.frob)
   const c = single r inv base f k l (embed c) 0
 
-  const_parts : (c : Element base) (u : Element (twisted_ops r f.frob)) (i : ℕ) → parts r inv base f k l (S.mul (const c) u) i ≡ K.mul (embed c) (parts r inv base f k l u i)
+  -- What coordinate `q` reads of a digit.
+  abbrev read : ℕ → Element (twisted_ops r f.frob) → Element base
+  read q u = place q (parts r inv base f k l u (q / f.degree))
+
+  read_add : (q : ℕ) (u v : Element (twisted_ops r f.frob)) → read q (S.add u v) ≡ F.add (read q u) (read q v)
+  read_add q u v = ap (place q) (parts_add r inv base f k l u v (q / f.degree)) ∙ place_add q _ _
+
+  read_scale : (c : Element base) (q : ℕ) (u : Element (twisted_ops r f.frob)) → read q (S.mul (const c) u) ≡ F.mul c (read q u)
   unfolding const
-  const_parts c u i = scale_parts r inv base f k l (embed c) u i
+  read_scale c q u = ap (place q) (scale_parts r inv base f k l (embed c) u (q / f.degree)) ∙ place_scale c _ q
 
   const_central : (c : Element base) (u : Element (twisted_ops r f.frob)) → S.mul (const c) u ≡ S.mul u (const c)
   unfolding const embed
@@ -98,84 +90,47 @@ module _ {E B : Type 0} (r : RingOps E) (inv : E → Option E) (base : RingOps B
 
   -- `b` is the image of T, of degree `d`
   module _ (b : Element (twisted_ops r f.frob)) (d : ℕ) (degree : length b.0 ≡ suc d) (pos : 1 ≤ d) where
-    abbrev base_is : IsBase S (λ x. length x.0) (Digit r inv base f k l b d degree) b
-    base_is = is_base r inv base f k l b d degree pos
+    abbrev size : Element (twisted_ops r f.frob) → ℕ
+    size u = length u.0
 
-    -- Member `j` of the expansion of `u` in powers of `b`.
-    digit : Element (twisted_ops r f.frob) → ℕ → Element (twisted_ops r f.frob)
-    digit u j = digits S (λ x. length x.0) (Digit r inv base f k l b d degree) b base_is u j
+    abbrev sizes : HasSizes S (λ u. length u.0)
+    sizes = ore_sizes r inv base f k l
 
     -- The coefficient at `e` of coordinate `q` of `u`.
-    coord_at : Element (twisted_ops r f.frob) → ℕ → ℕ → Element base
-    coord_at u q e = place (parts r inv base f k l (digit u e) (q / f.degree)) q
-
-    coord_zero : (q : ℕ) (v : Element (twisted_ops r f.frob)) → v ≡ S.zero → place (parts r inv base f k l v (q / f.degree)) q ≡ F.zero
-    coord_zero q v z =
-        ap (λ t. place t q) (ap (λ t. parts r inv base f k l t (q / f.degree)) z ∙ parts_past r inv base f k l S.zero (q / f.degree) (omega arith))
-        ∙ place_zero q
-
-    coord_past : (u : Element (twisted_ops r f.frob)) (q e : ℕ) → length u.0 ≤ e → coord_at u q e ≡ F.zero
-    unfolding coord_at digit
-    coord_past u q e m = coord_zero q _ (digits_past S (λ x. length x.0) (Digit r inv base f k l b d degree) b base_is u e m)
+    abbrev coord_at : Element (twisted_ops r f.frob) → ℕ → ℕ → Element base
+    coord_at u q e = read q (digit r inv base f k l b d degree pos u e)
 
     coord_high : (u : Element (twisted_ops r f.frob)) (q e : ℕ) → d * f.degree ≤ q → coord_at u q e ≡ F.zero
-    unfolding coord_at digit
     coord_high u q e m =
-        let short = digits_in S (λ x. length x.0) (Digit r inv base f k l b d degree) b base_is u e in
+        let short = digits_in S size sizes b d degree pos u e in
         let far : d ≤ q / f.degree = elim (cases_lt (q / f.degree) d) [
           | inl t ↦ absurd (let below = (div-lt_iff_lt-mul l.degree_pos).0 t in omega (arith, below, m))
           | inr t ↦ t
         ] in
-        ap (λ t. place t q) (parts_past r inv base f k l _ (q / f.degree) (omega (arith, short, far))) ∙ place_zero q
-
-    coord_add : (u v : Element (twisted_ops r f.frob)) (q e : ℕ) → coord_at (S.add u v) q e ≡ F.add (coord_at u q e) (coord_at v q e)
-    unfolding coord_at digit
-    coord_add u v q e =
-        ap (λ t. place (parts r inv base f k l t (q / f.degree)) q) (digits_add S (λ x. length x.0) (Digit r inv base f k l b d degree) b base_is u v e)
-        ∙ ap (λ t. place t q) (parts_add r inv base f k l (digit u e) (digit v e) (q / f.degree)) ∙ place_add _ _ q
-
-    coord_shift : (u : Element (twisted_ops r f.frob)) (q e : ℕ) → coord_at (S.mul u b) q e ≡ before F.zero (coord_at u q) e
-    unfolding coord_at digit
-    coord_shift u q zero = coord_zero q _ (digits_shift S (λ x. length x.0) (Digit r inv base f k l b d degree) b base_is u 0)
-    coord_shift u q (suc e) =
-        ap (λ t. place (parts r inv base f k l t (q / f.degree)) q) (digits_shift S (λ x. length x.0) (Digit r inv base f k l b d degree) b base_is u (suc e))
+        ap (place q) (parts_past r inv base f k l _ (q / f.degree) (omega (arith, short, far))) ∙ place_zero q
 
     coord_scale : (c : Element base) (u : Element (twisted_ops r f.frob)) (q e : ℕ) → coord_at (S.mul (const c) u) q e ≡ F.mul c (coord_at u q e)
-    unfolding coord_at digit const
-    coord_scale c u q e =
-        ap (λ t. place (parts r inv base f k l t (q / f.degree)) q)
-        (digits_left S (λ x. length x.0) (Digit r inv base f k l b d degree) b base_is (const c) u
-        (λ x s. scale_length r inv base f k l (embed c) x d s) e)
-        ∙ ap (λ t. place t q) (const_parts c (digit u e) (q / f.degree)) ∙ place_scale c _ q
+    unfolding const
+    coord_scale c u q =
+        at_left S F size sizes b d degree pos (read q) (read_add q) (const c) u c (λ x s. scale_length r inv base f k l (embed c) x d s) (read_scale c q)
 
     coord_inj : (u : Element (twisted_ops r f.frob)) → ((q e : ℕ) → coord_at u q e ≡ F.zero) → u ≡ S.zero
-    unfolding coord_at digit place
+    unfolding place
     coord_inj u zeros =
-        digits_zero S (λ x. length x.0) (Digit r inv base f k l b d degree) b base_is u (λ e.
-        same_element (twisted_ops r f.frob) (digit u e) _
-        (nil_from_length (digit u e).0 (let m = length_from r inv base f k l (digit u e) 0 (λ i _. member e i) in omega (arith, m))))
+        digits_zero S size sizes b d degree pos u (λ e.
+        twisted_same r inv base f k l (digit r inv base f k l b d degree pos u e) S.zero (λ i. member e i ∙ sym (parts_past r inv base f k l S.zero i (omega arith))))
       where
-        member : (e i : ℕ) → parts r inv base f k l (digit u e) i ≡ K.zero
-        member e i = same_element r _ _ (l.coord_inj _ _ (parts r inv base f k l (digit u e) i).1 k.ring.closed.zero_in (λ j m.
+        member : (e i : ℕ) → parts r inv base f k l (digit r inv base f k l b d degree pos u e) i ≡ K.zero
+        member e i = same_element r _ _ (l.coord_inj _ _ (parts r inv base f k l (digit r inv base f k l b d degree pos u e) i).1 k.ring.closed.zero_in (λ j m.
             let q = i * f.degree + j in
             let high : q / f.degree ≡ i = div-mul-add i f.degree j m in
             let low : q % f.degree ≡ j = mod-mul-add i f.degree j m in
-            ap₂ (λ s t. f.coord (parts r inv base f k l (digit u e) s).0 t) (sym high) (sym low)
-            ∙ ap (λ t. t.0) (zeros q e) ∙ sym (ap (λ t. t.0) (place_zero q)) ∙ ap (f.coord r.zero) low))
+            ap₂ (λ s t. f.coord (parts r inv base f k l (digit r inv base f k l b d degree pos u e) s).0 t) (sym high) (sym low)
+            ∙ ap (λ t. t.0) (zeros q e ∙ sym (place_zero q)) ∙ ap (f.coord r.zero) low))
 
     -- The image of a polynomial in T.
     pub acting : Element (twisted_ops base (λ c i. c)) → Element (twisted_ops r f.frob)
     acting a = total S (length a.0) (λ i. S.mul (const (coeffs base binv kb a i)) (power S b i))
-
-    coord_total : (u : Element (twisted_ops r f.frob)) (q e n : ℕ) (g : ℕ → Element (twisted_ops r f.frob)) → coord_at (total S n g) q e ≡ total F n (λ i. coord_at (g i) q e)
-    coord_total u q e zero g = coord_past S.zero q e (omega arith)
-    coord_total u q e (suc n) g = coord_add (total S n g) (g n) q e ∙ ap (λ t. F.add t (coord_at (g n) q e)) (coord_total u q e n g)
-
-    coord_power : (u : Element (twisted_ops r f.frob)) (q i e : ℕ) → coord_at (S.mul u (power S b i)) q e ≡ moved_up F i (coord_at u q) e
-    coord_power u q zero e = ap (λ t. coord_at t q e) (S.mul_one u)
-    coord_power u q (suc i) e =
-        ap (λ t. coord_at t q e) (sym (S.mul_assoc u (power S b i) b)) ∙ coord_shift (S.mul u (power S b i)) q e
-        ∙ ap (λ t. before F.zero t e) (fun_ext (coord_power u q i))
 
     -- u (c v) = c (u v)
     const_first : (c : Element base) (u v : Element (twisted_ops r f.frob)) → S.mul u (S.mul (const c) v) ≡ S.mul (const c) (S.mul u v)
@@ -188,10 +143,10 @@ module _ {E B : Type 0} (r : RingOps E) (inv : E → Option E) (base : RingOps B
         let n = length a.0 in
         let c = coeffs base binv kb a in
         ap (λ t. coord_at t q e) (sym (total_left S n u (λ i. S.mul (const (c i)) (power S b i))))
-        ∙ coord_total u q e n (λ i. S.mul u (S.mul (const (c i)) (power S b i)))
+        ∙ at_total S F size sizes b d degree pos (read q) (read_add q) n (λ i. S.mul u (S.mul (const (c i)) (power S b i))) e
         ∙ total_same F n _ _ (λ i m.
         ap (λ t. coord_at t q e) (const_first (c i) u (power S b i)) ∙ coord_scale (c i) (S.mul u (power S b i)) q e
-        ∙ ap (F.mul (c i)) (coord_power u q i e))
+        ∙ ap (F.mul (c i)) (at_power S F size sizes b d degree pos (read q) (read_add q) u i e))
         ∙ shifts_product F n c (coord_at u q) (coeffs_past base binv kb a) e
 
     -- The coordinates of `u`.
@@ -200,7 +155,7 @@ module _ {E B : Type 0} (r : RingOps E) (inv : E → Option E) (base : RingOps B
 
     row_coeffs : (u : Element (twisted_ops r f.frob)) (q e : ℕ) → coeffs base binv kb (coordinate_row u q) e ≡ coord_at u q e
     unfolding coordinate_row
-    row_coeffs u q e = coeffs_of base binv kb (length u.0) (coord_at u q) (coord_past u q) e
+    row_coeffs u q e = coeffs_of base binv kb (length u.0) (coord_at u q) (at_past S F size sizes b d degree pos (read q) (read_add q) u) e
 
     -- The power of tau by the degree of the field.
     abbrev pub frob_of : Element (twisted_ops r f.frob)
@@ -210,7 +165,7 @@ module _ {E B : Type 0} (r : RingOps E) (inv : E → Option E) (base : RingOps B
     coordinates = record {
       past = λ u q m. poly_same base binv kb (coordinate_row u q) A.zero (λ e. row_coeffs u q e ∙ coord_high u q e m ∙ sym (coeffs_past base binv kb A.zero e (omega arith)));
       add = λ u v q. poly_same base binv kb (coordinate_row (S.add u v) q) (A.add (coordinate_row u q) (coordinate_row v q)) (λ e.
-          row_coeffs (S.add u v) q e ∙ coord_add u v q e
+          row_coeffs (S.add u v) q e ∙ at_add S F size sizes b d degree pos (read q) (read_add q) u v e
           ∙ sym (coeffs_add base binv kb (coordinate_row u q) (coordinate_row v q) e ∙ ap₂ F.add (row_coeffs u q e) (row_coeffs v q e)));
       scale = λ u a q. poly_same base binv kb (coordinate_row (S.mul u (acting a)) q) (A.mul a (coordinate_row u q)) (λ e.
           row_coeffs (S.mul u (acting a)) q e ∙ coord_act u a q e
@@ -221,42 +176,27 @@ module _ {E B : Type 0} (r : RingOps E) (inv : E → Option E) (base : RingOps B
       nontrivial = λ e. let n = ap (λ t. length t.0) e in cc;
     }
 
-    power_is : (u : Element (twisted_ops r f.frob)) (i : ℕ) → (power S u i).0 ≡ power_of (twisted_ops r f.frob) u.0 i
-    power_is u zero = refl
-    power_is u (suc i) = ap (λ t. list_mul r f.frob t u.0) (power_is u i)
-
     -- the image, by its definition
     pub act_is : (a : Element (twisted_ops base (λ c i. c))) → (acting a).0 ≡ image r base f b.0 a.0
     unfolding acting const embed
     act_is a =
         total_is (twisted_ops r f.frob) (frob_ring r inv base f k l) (length a.0) (λ i. S.mul (const (coeffs base binv kb a i)) (power S b i))
         ∙ sum_same (twisted_ops r f.frob) (frob_ring r inv base f k l) (length a.0) _ _ (λ i m.
-        ap (list_mul r f.frob (constant r (f.embed (coeff base a.0 i)))) (power_is b i))
+        ap (list_mul r f.frob (constant r (f.embed (coeff base a.0 i)))) (power_is r inv base f k l b i))
 
     -- what `row` is, by the definition of the coordinates over the polynomials in T
-    module _ (u : Element (twisted_ops r f.frob)) (list : List (List E)) (s : IsMotive r f.frob b.0 u.0 list) (q : ℕ) where
-      member : ℕ → Element r
-      member e = members r inv base f k l b d degree pos list s.elems (q / f.degree) e
-
-      member_past : (e : ℕ) → length (coeff (twisted_ops r (λ c i. c)) list (q / f.degree)) ≤ e → place (member e) q ≡ F.zero
-      unfolding member
-      member_past e m =
-          ap (λ t. place t q) (same_element r (member e) K.zero (coeff_past r (coeff (twisted_ops r (λ c i. c)) list (q / f.degree)) e m))
-          ∙ place_zero q
-
-      member_is : q / f.degree < d → (e : ℕ) → place (member e) q ≡ coord_at u q e
-      unfolding member coord_at digit
-      member_is m e = ap (λ t. place t q) (sym (motive_digits r inv base f k l b d degree pos u list s e (q / f.degree) m))
-
-      row_low : q / f.degree < d → list_of base (length (coeff (twisted_ops r (λ c i. c)) list (q / f.degree))) (λ e. (place (member e) q).0) ≡ (coordinate_row u q).0
-      row_low m =
-          let n = length (coeff (twisted_ops r (λ c i. c)) list (q / f.degree)) in
-          same_coeffs base kb.ring.closed.zero_in kb.ring.equal _ _ (trimmed-trim base (first_values n (λ e. (place (member e) q).0))) (and_parts _ _ (coordinate_row u q).1).1 (λ e.
-          coeff-list_of base kb.ring.closed.zero_in kb.ring.equal n (λ i. (place (member i) q).0) (λ i. (place (member i) q).1) (λ i g. ap (λ t. t.0) (member_past i g)) e
-          ∙ ap (λ t. t.0) (member_is m e ∙ sym (row_coeffs u q e)))
+    row_low : (u : Element (twisted_ops r f.frob)) (list : List (List E)) (s : IsMotive r f.frob b.0 u.0 list) (q : ℕ) → q / f.degree < d
+        → list_of base (length (coeff (twisted_ops r (λ c i. c)) list (q / f.degree))) (λ e. f.coord (coeff r (coeff (twisted_ops r (λ c i. c)) list (q / f.degree)) e) (q % f.degree)) ≡ (coordinate_row u q).0
+    unfolding place
+    row_low u list s q m =
+        let n = length (coeff (twisted_ops r (λ c i. c)) list (q / f.degree)) in
+        let member : ℕ → Element r = members r inv base f k l b d degree pos list s.elems (q / f.degree) in
+        poly_of_list base binv kb n (λ e. place q (member e))
+        ∙ ap (λ (t : Element (twisted_ops base (λ c i. c))). t.0) (poly_same base binv kb (poly_of base binv kb n (λ e. place q (member e))) (coordinate_row u q) (λ e.
+        coeffs_of base binv kb n (λ e. place q (member e)) (λ e far. ap (place q) (list_past r inv base f k l b d degree pos list s.elems (q / f.degree) e far) ∙ place_zero q) e
+        ∙ ap (place q) (sym (motive_digits r inv base f k l b d degree pos u list s e (q / f.degree) m)) ∙ sym (row_coeffs u q e)))
 
     pub over_t_is : (u : Element (twisted_ops r f.frob)) (v : List (List B)) → IsOverT r base f b.0 u.0 v → (q : ℕ) → coeff (twisted_ops base (λ c i. c)) v q ≡ (coordinate_row u q).0
-    unfolding place member
     over_t_is u v s q =
         let count : length s.motive ≡ d = let e = s.is_motive.count in omega (arith, e, degree) in
         let size : length v ≡ d * f.degree = ap length s.is ∙ length-first_values _ _ ∙ ap (λ t. t * f.degree) count in
@@ -310,5 +250,5 @@ module _ {E B : Type 0} (r : RingOps E) (inv : E → Option E) (base : RingOps B
     over_t_shift u v y s o q =
         over_t_is (S.mul u b) y o q
         ∙ ap (λ (x : Element (twisted_ops base (λ c i. c))). x.0) (poly_same base binv kb (coordinate_row (S.mul u b) q) (A.mul (letter_poly base binv kb) (coordinate_row u q)) (λ e.
-        row_coeffs (S.mul u b) q e ∙ coord_shift u q e ∙ ap (λ t. before F.zero t e) (sym (fun_ext (row_coeffs u q))) ∙ sym (letter_coeffs base binv kb (coordinate_row u q) e)))
+        row_coeffs (S.mul u b) q e ∙ at_shift S F size sizes b d degree pos (read q) (read_add q) u e ∙ ap (λ t. before F.zero t e) (sym (fun_ext (row_coeffs u q))) ∙ sym (letter_coeffs base binv kb (coordinate_row u q) e)))
         ∙ sym (ap (list_mul base (λ c i. c) (base.zero ∷ base.one ∷ [])) (over_t_is u v s q))

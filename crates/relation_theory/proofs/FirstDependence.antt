@@ -11,22 +11,24 @@ use mathlib.Core.Path.{fun_ext}
 use Rattle.finite_ring.proofs.Powers.{mul_swap}
 use Rattle.relation_theory.proofs.Euclid.{IsEuclidean, domain, zero_product}
 use Rattle.relation_theory.proofs.Gauss.{at_each}
-use Rattle.relation_theory.proofs.Relations.{IsRel, before}
+use Rattle.relation_theory.proofs.Relations.{IsRel, rel_more, before}
 use Rattle.relation_theory.proofs.Least.{IsLeast}
 use Rattle.relation_theory.proofs.Content.{primitive, primitive_least}
 
 -- A relation of `count + 1` rows whose top isn't zero, where `count` rows have none.
-pub record FirstDependence {M : Type 0} (R : RingOn M) (rows : ℕ → ℕ → M) : Type 0 where
+pub record FirstDependence {M : Type 0} (R : RingOn M) (rows : ℕ → ℕ → M) (w : ℕ) : Type 0 where
   pub count : ℕ
+  pub within : count ≤ w
   pub by : ℕ → M
   pub relation : IsRel R rows (suc count) by
   pub top : by count ≢ R.zero
   pub none : (c : ℕ → M) → IsRel R rows count c → (i : ℕ) → c i ≡ R.zero
 
 module _ {M : Type 0} (R : RingOn M) (h : IsDomain R) where
-  zero_row : (rows : ℕ → ℕ → M) → ((j : ℕ) → rows 0 j ≡ R.zero) → FirstDependence R rows
-  zero_row rows z = record {
+  zero_row : (rows : ℕ → ℕ → M) (w : ℕ) → ((j : ℕ) → rows 0 j ≡ R.zero) → FirstDependence R rows w
+  zero_row rows w z = record {
     count = 0;
+    within = omega arith;
     by = before R.one (λ _. R.zero);
     relation = record {
       past = at_each (λ i. 1 ≤ i → before R.one (λ _. R.zero) i ≡ R.zero) (λ l. absurd (omega arith)) (λ i l. refl);
@@ -99,10 +101,11 @@ module _ {M : Type 0} (R : RingOn M) (h : IsDomain R) where
           ∙ ap (R.add _) (total_zero R n _ (λ i _. ap (λ t. R.mul t (rows (suc i) q)) (e i) ∙ zero_mul R _)) ∙ add_zero R _)
           ∙ s.is q)
 
-    with_first : FirstDependence R (λ i j. cleared i (without q j)) → FirstDependence R rows
+    with_first : (w : ℕ) → FirstDependence R (λ i j. cleared i (without q j)) w → FirstDependence R rows (suc w)
     unfolding raised tail
-    with_first s = record {
+    with_first w s = record {
       count = suc s.count;
+      within = let l = s.within in omega (arith, l);
       by = raised (suc s.count) s.by;
       relation = record {
         past = at_each (λ i. suc (suc s.count) ≤ i → raised (suc s.count) s.by i ≡ R.zero) (λ l. absurd (omega arith))
@@ -115,19 +118,25 @@ module _ {M : Type 0} (R : RingOn M) (h : IsDomain R) where
           at_each (λ i. c i ≡ R.zero) (first_zero s.count c t later) later;
     }
 
-  pub first_dependence : (w : ℕ) (rows : ℕ → ℕ → M) → ((i j : ℕ) → w ≤ j → rows i j ≡ R.zero) → FirstDependence R rows
-  first_dependence zero rows past = zero_row rows (λ j. past 0 j (omega arith))
+  pub first_dependence : (w : ℕ) (rows : ℕ → ℕ → M) → ((i j : ℕ) → w ≤ j → rows i j ≡ R.zero) → FirstDependence R rows w
+  first_dependence zero rows past = zero_row rows 0 (λ j. past 0 j (omega arith))
   first_dependence (suc w) rows past = elim (find_nonzero R h (suc w) (rows 0)) [
-    | inl s ↦ with_first rows s.0 s.2
+    | inl s ↦ with_first rows s.0 s.2 w
         (first_dependence w (λ i j. cleared rows s.0 s.2 i (without s.0 j)) (λ i j l.
         let e = without_after s.0 j (let b = s.1 in omega (arith, b, l)) in
         let far : suc w ≤ without s.0 j = omega (arith, e, l) in
         cleared_past rows s.0 s.2 i (without s.0 j) (past (suc i) _ far) (past 0 _ far)))
-    | inr none ↦ zero_row rows (λ j. elim (cases_lt j (suc w)) [
+    | inr none ↦ zero_row rows (suc w) (λ j. elim (cases_lt j (suc w)) [
       | inl l ↦ none j l
       | inr l ↦ past 0 j l
     ])
   ]
+
+  -- more rows than places have a relation
+  pub too_many : (w : ℕ) (rows : ℕ → ℕ → M) → ((i j : ℕ) → w ≤ j → rows i j ≡ R.zero) → ((c : ℕ → M) → IsRel R rows (suc w) c → (i : ℕ) → c i ≡ R.zero) → ⊥
+  too_many w rows past none =
+      let s = first_dependence w rows past in
+      s.top (none s.by (rel_more R rows (suc s.count) (suc w) s.by (let l = s.within in omega (arith, l)) s.relation) s.count)
 
 -- A least relation of rows of bounded width.
 pub record LeastOfRows {M : Type 0} (R : RingOn M) (rows : ℕ → ℕ → M) : Type 0 where

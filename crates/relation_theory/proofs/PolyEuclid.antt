@@ -1,5 +1,5 @@
 -- Polynomials over a field are a Euclidean ring, with their lengths as sizes; and their coefficients, as sequences.
-use Rattle.std.proofs.Common.{◌≡◌, ℕ, ◌≤◌, Option, length, ◌∙◌, ap}
+use Rattle.std.proofs.Common.{◌≡◌, ℕ, ◌≤◌, Option, length, refl, ◌∙◌, ap}
 use Rattle.std.proofs.lemmas.Bool.{and_parts}
 use Rattle.ring_core.specs.Ring.{RingOps}
 use Rattle.ring_core.specs.Field.{IsField}
@@ -56,6 +56,10 @@ module _ {E : Type 0} (r : RingOps E) (inv : E → Option E) (k : IsField r inv)
   -- the polynomial with these coefficients below n
   pub poly_of : ℕ → (ℕ → Element r) → Element (twisted_ops r (λ c i. c))
   poly_of n f = (list_of r n (λ i. (f i).0), canonical-list_of r n _ (λ i l. (f i).1))
+
+  pub poly_of_list : (n : ℕ) (f : ℕ → Element r) → list_of r n (λ i. (f i).0) ≡ (poly_of n f).0
+  unfolding poly_of
+  poly_of_list n f = refl
 
   pub coeffs_of : (n : ℕ) (f : ℕ → Element r) → ((i : ℕ) → n ≤ i → f i ≡ scalars.zero) → (i : ℕ) → coeffs (poly_of n f) i ≡ f i
   unfolding poly_of

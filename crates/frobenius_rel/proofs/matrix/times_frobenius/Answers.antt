@@ -1,7 +1,5 @@
-use Rattle.std.proofs.Common.{◌≡◌, ◌<◌, List, [], ◌∷◌, ◌++◌, length, refl, sym, ◌∙◌, ap, ap₂, arith, subst}
+use Rattle.std.proofs.Common.{◌≡◌, ◌<◌, [], ◌∷◌, ◌++◌, length, refl, sym, ◌∙◌, ap, ap₂, arith, subst}
 use Rattle.std.proofs.lemmas.List.{get_or_read_under}
-use Rattle.ring_core.specs.Coeffs.{first_values}
-use Rattle.ring_core.proofs.FirstValues.{at-first_values}
 use Rattle.linear_algebra.specs.Linear.{row_at}
 use Rattle.fq_poly.specs.Poly.{poly_ops}
 use Rattle.drinfeld_mod.specs.Module.{rank_of}

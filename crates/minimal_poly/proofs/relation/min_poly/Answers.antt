@@ -9,18 +9,14 @@ use Rattle.minimal_poly.proofs.relation.min_poly.Goals as goal
 pub first_dependence-requires : goal.first_dependence-requires
 first_dependence-requires g c =
     let k = c.args.k.now in
-    let base_of = g.K.FrobField.base_of k in
-    let rows = c.in_ok-rows.rows.rows in
-    ap₂ (λ b w. are_rows (g.K.Base.Field.ops b) w rows) c.base.ensures c.in_ok-rows.ensures.width
-    ∙ rows_shaped (g.K.Field.ops k) (g.K.Field.inv_of k) (g.K.Base.Field.ops base_of) (g.K.Base.Field.inv_of base_of) (g.K.FrobField.frob_ops k) (g.met.K.Field.laws k) (g.met.K.Base.Field.laws base_of) (g.met.K.FrobField.frob_laws k) c.args.c c.requires rows c.in_ok-rows.ensures.rows
+    ap₂ (λ b w. are_rows (g.K.Base.Field.ops b) w c.in_ok-rows.rows.rows) c.base.ensures c.in_ok-rows.ensures.width
+    ∙ rows_shaped _ _ _ _ _ (g.met.K.Field.laws k) (g.met.K.Base.Field.laws (g.K.FrobField.base_of k)) (g.met.K.FrobField.frob_laws k) c.args.c c.requires _ c.in_ok-rows.ensures.rows
 
 pub unreachable-requires : goal.unreachable-requires
 unreachable-requires g c =
     let k = c.args.k.now in
-    let base_of = g.K.FrobField.base_of k in
-    let rows = c.in_ok-rows.rows.rows in
-    not_independent (g.K.Field.ops k) (g.K.Field.inv_of k) (g.K.Base.Field.ops base_of) (g.K.Base.Field.inv_of base_of) (g.K.FrobField.frob_ops k) (g.met.K.Field.laws k) (g.met.K.Base.Field.laws base_of) (g.met.K.FrobField.frob_laws k) c.args.c c.requires rows c.in_ok-rows.ensures.rows
-    (subst (λ b. IsIndependent (g.K.Base.Field.ops b) rows) c.base.ensures (rw c.in_default.is at c.in_ok-coefficients.ensures))
+    not_independent _ _ _ _ _ (g.met.K.Field.laws k) (g.met.K.Base.Field.laws (g.K.FrobField.base_of k)) (g.met.K.FrobField.frob_laws k) c.args.c c.requires _ c.in_ok-rows.ensures.rows
+    (subst (λ b. IsIndependent (g.K.Base.Field.ops b) c.in_ok-rows.rows.rows) c.base.ensures (rw c.in_default.is at c.in_ok-coefficients.ensures))
 
 pub monic_relation-requires : goal.monic_relation-requires
 monic_relation-requires g c =
@@ -32,14 +28,9 @@ monic_relation-requires g c =
 pub returns : goal.returns
 returns g c =
     let k = c.args.k.now in
-    let r = g.K.Field.ops k in
-    let f = g.K.FrobField.frob_ops k in
-    let base_of = g.K.FrobField.base_of k in
-    let base = g.K.Base.Field.ops base_of in
-    let rows = c.in_ok-rows.rows.rows in
     let m = c.in-Some.field-0-0 in
     let d = c.in-Some.coefficients.items in
-    let first = subst (λ b. IsFirstDependence (g.K.Base.Field.ops b) rows m d) c.base.ensures (rw c.in-Some.is at c.in_ok-coefficients.ensures) in
-    subst (IsMinPoly r base f.embed c.args.c)
+    subst (IsMinPoly (g.K.Field.ops k) (g.K.Base.Field.ops (g.K.FrobField.base_of k)) (g.K.FrobField.frob_ops k).embed c.args.c)
     (sym (c.from_vec.ensures ∙ c.in_ok-relation.ensures ∙ ap₂ (λ b u. monic_of (g.K.Base.Field.ops b) u) c.base-2.ensures c.deref.ensures.value))
-    (relation_is r (g.K.Field.inv_of k) base (g.K.Base.Field.inv_of base_of) f (g.met.K.Field.laws k) (g.met.K.Base.Field.laws base_of) (g.met.K.FrobField.frob_laws k) c.args.c c.requires rows c.in_ok-rows.ensures.rows m d first)
+    (relation_is _ _ _ _ _ (g.met.K.Field.laws k) (g.met.K.Base.Field.laws (g.K.FrobField.base_of k)) (g.met.K.FrobField.frob_laws k) c.args.c c.requires _ c.in_ok-rows.ensures.rows m d
+    (subst (λ b. IsFirstDependence (g.K.Base.Field.ops b) c.in_ok-rows.rows.rows m d) c.base.ensures (rw c.in-Some.is at c.in_ok-coefficients.ensures)))
