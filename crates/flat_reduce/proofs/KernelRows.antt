@@ -26,16 +26,6 @@ use Rattle.flat_modules.proofs.Places.{HasPlaces}
 use Rattle.flat_modules.proofs.Matrix.{times_left, is_times_left, zero_at_live, only_left}
 use Rattle.flat_reduce.proofs.Reduced.{HasTransform}
 
--- the rows of a list made of its values
-pub row_first : {X : Type 0} (n : ℕ) (f : ℕ → List X) (i : ℕ) → i < n → row_at (first_values n f) i ≡ f i
-row_first zero f i l = absurd (omega arith)
-row_first (suc n) f zero l = refl
-row_first (suc n) f (suc i) l = row_first n (λ j. f (suc j)) i (omega arith)
-
-pub flat_first : {E : Type 0} (r : RingOps E) (n : ℕ) (f : ℕ → List E) → ((i : ℕ) → is_canonical r (f i) ≡ true) → are_flat r (first_values n f) ≡ true
-flat_first r zero f h = refl
-flat_first r (suc n) f h = and_from _ _ (h 0) (flat_first r n (λ j. f (suc j)) (λ i. h (suc i)))
-
 module _ {E : Type 0} (r : RingOps E) (h : IsRing r) where
   abbrev R : RingOn (Element r)
   R = elements h

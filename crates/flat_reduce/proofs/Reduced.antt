@@ -3,7 +3,7 @@ use Rattle.std.proofs.Common.{◌≡◌, ◌≢◌, ℕ, ◌+◌, ◌*◌, ◌<�
 use Rattle.std.proofs.lemmas.Bool.{and_parts}
 use Rattle.ring_core.specs.Ring.{RingOps, IsElem, IsRing}
 use Rattle.ring_core.specs.Coeffs.{coeff, are_elems, is_trimmed}
-use Rattle.ring_core.proofs.Carrier.{RingOn, Element, elements, same_element, add_zero}
+use Rattle.ring_core.proofs.Carrier.{RingOn, Element, elements, same_element, add_zero, zero_mul}
 use Rattle.ring_core.proofs.Coefficients.{coeff_past}
 use Rattle.ring_core.proofs.Degrees.{top_nonzero}
 use Rattle.linear_algebra.specs.Linear.{row_at, entry}
@@ -35,14 +35,14 @@ module _ {E : Type 0} (r : RingOps E) (h : IsRing r) where
       → (i t : ℕ) → rows_of r (entry r after) ai i t ≡ row_added R p q (c, ci) e w (rows_of r (entry r before) bi) i t
   added_is p q e w c ci before after bi ai added i t =
       let rows = rows_of r (entry r before) bi in
-      let part : Element r = R.mul (c, ci) (shift R (e * w) (rows q) t) in
+      let part = shift R (e * w) (rows q) t in
       elim (same_or_other i p) [
         | inl is ↦
             same_element r _ _ (ap (λ k. entry r after k t) is ∙ added.here t ∙ ap₂ (λ k v. r.add (entry r before k t) (r.mul c v)) (sym is) (sym (shift_value r h (e * w) (rows q) t)))
-            ∙ ap (λ b. R.add (rows i t) (cond b part R.zero)) (sym (eq-eqb i p is))
+            ∙ ap (λ b. R.add (rows i t) (R.mul (cond b (c, ci) R.zero) part)) (sym (eq-eqb i p is))
         | inr ne ↦
-            same_element r _ _ (added.rest i t ne) ∙ sym (add_zero R (rows i t))
-            ∙ ap (λ b. R.add (rows i t) (cond b part R.zero)) (sym (ne_eqb i p ne))
+            same_element r _ _ (added.rest i t ne) ∙ sym (ap (R.add (rows i t)) (zero_mul R part) ∙ add_zero R (rows i t))
+            ∙ ap (λ b. R.add (rows i t) (R.mul (cond b (c, ci) R.zero) part)) (sym (ne_eqb i p ne))
       ]
 
   pub unit_value : (i t : ℕ) → unit_at r i t ≡ (unit R i t).0
