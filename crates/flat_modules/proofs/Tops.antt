@@ -42,12 +42,12 @@ module _ {M : Type 0} (R : RingOn M) (d : IsDomain R) (m : ℕ) (live : ℕ → 
   tops_bound : (m : ℕ) → (b : ℕ) × ((i : ℕ) → i < m → top i < b)
   tops_bound zero = (0, λ i l. absurd (omega arith))
   tops_bound (suc m) = let before = tops_bound m in (
-      suc (before.0 + top m),
-      λ i l. elim (same_or_other i m) [
-        | inl e ↦ let v = ap top e in omega (arith, v)
-        | inr ne ↦ let v = before.1 i (omega arith) in omega (arith, v)
-      ],
-    )
+    suc (before.0 + top m),
+    λ i l. elim (same_or_other i m) [
+      | inl e ↦ let v = ap top e in omega (arith, v)
+      | inr ne ↦ let v = before.1 i (omega arith) in omega (arith, v)
+    ],
+  )
 
   -- Where the combination is zero at the tops from `lo` on, so are the coefficients of the rows there.
   pub zero_at_tops : (lo : ℕ) → ((k : ℕ) → k < m → live k ≡ true → lo ≤ top k → combine R m c rows (top k) ≡ R.zero) → zero_from lo

@@ -1,5 +1,5 @@
 -- What came about by turns has an invertible transform; settled rows have different lead places.
-use Rattle.std.proofs.Common.{◌≡◌, ◌≢◌, ℕ, ◌+◌, ◌*◌, ◌<◌, ◌≤◌, inl, inr, true, Bool, Option, List, [], length, cond, nat_lt, refl, sym, ◌∙◌, ap, ap₂, arith, eq-eqb, ne_eqb, ltb-true, ltb-false}
+use Rattle.std.proofs.Common.{◌≡◌, ◌≢◌, ℕ, ◌+◌, ◌*◌, ◌%◌, ◌<◌, ◌≤◌, inl, inr, true, Bool, Option, List, [], length, cond, nat_lt, refl, sym, ◌∙◌, ap, ap₂, arith, eq-eqb, ne_eqb, ltb-true, ltb-false}
 use Rattle.std.proofs.lemmas.Bool.{and_parts}
 use Rattle.ring_core.specs.Ring.{RingOps, IsElem, IsRing}
 use Rattle.ring_core.specs.Coeffs.{coeff, are_elems, is_trimmed}
@@ -98,7 +98,17 @@ module _ {E : Type 0} (r : RingOps E) (h : IsRing r) where
             (λ i t l. refl);
       }
 
--- settled rows
+-- rows that are settled have different lead places
+module _ {E : Type 0} (r : RingOps E) (w n : ℕ) (slot : List (Option ℕ)) (image : List (List E)) (whole : length image ≡ n) (settled : IsUnsettled w n n slot image) where
+  row_inside : (j : ℕ) → row_at image j ≢ [] → j < n
+  row_inside j nz = by_bool (nat_lt j n) (λ b. ltb-true j n b) (λ b. let l : n ≤ j = ltb-false j n b in absurd (nz (row_past r image j (omega (arith, l, whole)))))
+
+  pub different_places : (i k : ℕ) → row_at image i ≢ [] → row_at image k ≢ [] → i ≢ k → lead_at image i % w ≢ lead_at image k % w
+  different_places i k ni nk ne e =
+      let a = row_inside i ni in
+      let b = row_inside k nk in
+      ne (some_same i k (sym (settled.all i (omega (arith, a)) (λ u. omega (arith, u, a)) ni) ∙ ap (slot_of slot) e ∙ settled.all k (omega (arith, b)) (λ u. omega (arith, u, b)) nk))
+
 module _ {E : Type 0} (r : RingOps E) (h : IsRing r) (w n : ℕ) (slot : List (Option ℕ)) (image : List (List E)) (fi : are_flat r image ≡ true) (ii : AllIn r (entry r image)) (whole : length image ≡ n)
     (settled : IsUnsettled w n n slot image) where
   abbrev pub live : ℕ → Bool
@@ -108,17 +118,12 @@ module _ {E : Type 0} (r : RingOps E) (h : IsRing r) (w n : ℕ) (slot : List (O
   full k e z = let l = ltb-true 0 (length (row_at image k)) e in let v = ap length z in omega (arith, l, v)
 
   pub inside : (k : ℕ) → live k ≡ true → k < n
-  inside k e = by_bool (nat_lt k n)
-      (λ b. ltb-true k n b)
-      (λ b. let l : n ≤ k = ltb-false k n b in absurd (full k e (row_past r image k (omega (arith, l, whole)))))
+  inside k e = row_inside r w n slot image whole settled k (full k e)
 
   pub settled_places : HasPlaces (elements h) w live (lead_at image) (rows_of r (entry r image) ii)
   settled_places = record {
     absent = λ k t e. let l : length (row_at image k) ≤ 0 = ltb-false 0 (length (row_at image k)) e in same_element r _ _ (coeff_past r (row_at image k) t (omega (arith, l)));
     nonzero = λ k e z. top_nonzero r h.closed.zero_in h.equal (row_at image k) (and_parts (are_elems r (row_at image k)) (is_trimmed r (row_at image k)) (flat_at r image fi k)).1 (full k e) (ap (λ x. x.0) z);
     above = λ k t e l. same_element r _ _ (coeff_past r (row_at image k) t (omega (arith, l)));
-    places = λ j k lj lk ne e.
-        let a = inside j lj in
-        let b = inside k lk in
-        ne (some_same j k (sym (settled.all j (omega (arith, a)) (λ u. omega (arith, u, a)) (full j lj)) ∙ ap (λ p. slot_of slot p) e ∙ settled.all k (omega (arith, b)) (λ u. omega (arith, u, b)) (full k lk)));
+    places = λ j k lj lk ne. different_places r w n slot image whole settled j k (full j lj) (full k lk) ne;
   }

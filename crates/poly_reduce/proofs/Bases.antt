@@ -14,7 +14,6 @@ use Rattle.linear_algebra.proofs.Sums.{by_bool, same_or_other}
 use Rattle.fq_poly.specs.Poly.{poly_ops}
 use Rattle.flat_modules.specs.Flat.{unit_at, times_rows, IsReduction, IsBasis, IsRelationOf, IsOnlyCombination}
 use Rattle.flat_modules.proofs.Lists.{flat_at}
-use Rattle.flat_reduce.proofs.KernelRows.{row_first}
 use Rattle.flat_reduce.proofs.RowSteps.{length_by_zeros}
 use Rattle.poly_reduce.specs.Rows.{Rows}
 use Rattle.poly_reduce.specs.Matrices.{row_times, product, identity, zero_row, member, StandFor, IsLead, IsMatrix, IsRowReduction, IsRelationRow, IsOnlyProduct, IsRowBasis}
@@ -40,7 +39,7 @@ module _ {E : Type 0} (r : RingOps E) (inv : E → Option E) (field : IsField r 
       let within = sl.count in
       let by = row_at left i in
       let bi = row_elems p (length flat) by (rows_at p (length flat) left sl.shape i low) in
-      row_first (length left) row i low
+      at-first_values (length left) row i [] low
       ∙ sym (from_combination r ring w posw m flat s (row_at image i) by bi (rows_at p w image shape i (omega (arith, low, len)))
       (λ t. sym (is i t low) ∙ times_combination r ring w posw m flat s (row_at flat_left i) by (flat_at r flat_left sl.flat i) bi posn (λ k. stand_at r (length flat) left flat_left sl i k) t)))
 
@@ -79,7 +78,7 @@ module _ {E : Type 0} (r : RingOps E) (inv : E → Option E) (field : IsField r 
   unit_rows_in : (n k : ℕ) → are_rows p n (first_values k (λ i. first_values n (unit_at p i))) ≡ true
   unit_rows_in n k = rows_by_places p n _ (λ i l.
       let count = length-first_values k (λ i. first_values n (unit_at p i)) in
-      ap (is_row p n) (row_first k (λ i. first_values n (unit_at p i)) i (omega (arith, l, count)))
+      ap (is_row p n) (at-first_values k (λ i. first_values n (unit_at p i)) i [] (omega (arith, l, count)))
       ∙ row_from p n (first_values n (unit_at p i)) (length-first_values n (unit_at p i)) (elems-first_values p n (unit_at p i) (λ j _. unit_canonical i j)))
 
   -- the lead of a row is that of its flat row
@@ -124,7 +123,7 @@ module _ {E : Type 0} (r : RingOps E) (inv : E → Option E) (field : IsField r 
         let shape_image : IsMatrix p n w image = record { width = wi; count = sym li ∙ hi; shape = si.shape } in
         let units = unit_rows_in n n in
         let unit_count = length-first_values n (λ i. first_values n (unit_at p i)) in
-        let unit_row = λ (i : ℕ) (t : ℕ) (l : i < n). unit_member n i t l ∙ ap (λ u. member r n u t) (sym (row_first n (λ i. first_values n (unit_at p i)) i l)) in
+        let unit_row = λ (i : ℕ) (t : ℕ) (l : i < n). unit_member n i t l ∙ ap (λ u. member r n u t) (sym (at-first_values n (λ i. first_values n (unit_at p i)) i [] l)) in
         let products = product_same w posw m.rows flat s posn left.rows flat_left sl image.rows (omega (arith, ll, li, hl, hi)) si.shape (λ i t l.
         let low : i < n = omega (arith, l, ll, hl) in
         h.image_is i t low ∙ stand_at r w image.rows flat_image si i t) in
