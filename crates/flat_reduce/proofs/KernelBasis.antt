@@ -17,7 +17,7 @@ use Rattle.flat_reduce.specs.steps.Turns.{Turns}
 use Rattle.flat_reduce.specs.steps.Settled.{IsUnsettled}
 use Rattle.flat_reduce.proofs.Reduced.{HasTransform, after_turns, start, live, inside, settled_places}
 use Rattle.flat_reduce.proofs.Pushed.{flat_push}
-use Rattle.flat_reduce.proofs.KernelRows.{row_times, only_rows}
+use Rattle.flat_reduce.proofs.KernelRows.{times_bound, only_rows}
 
 module _ {E : Type 0} where
   module _ (image left : List (List E)) where
@@ -111,6 +111,6 @@ module _ {E : Type 0} (r : RingOps E) (inv : E → Option E) (field : IsField r 
           let at = lead_number (dead image left) n i in
           let empty : length (row_at image at) ≤ 0 = ltb-false 0 (length (row_at image at)) (not-true _ (mark.marked i (omega (arith, l, count)))) in
           ap (λ v. times_rows r n w v (entry r m) t) (picked_row image left n i l)
-          ∙ row_times r ring n w s.len (row_at left at) (s.left_in at) (s.is.left_short at) (entry r m) mi t
+          ∙ times_bound r ring n w s.len (row_at left at) (s.left_in at) (s.is.left_short at) (entry r m) mi t
           ∙ ap (λ a. a.0) (s.is.image_is at t (mark.below i (omega (arith, l, count))))
           ∙ coeff_past r (row_at image at) t (omega (arith, empty))

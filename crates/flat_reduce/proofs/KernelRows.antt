@@ -37,9 +37,9 @@ module _ {E : Type 0} (r : RingOps E) (h : IsRing r) where
       ∙ combined_rows r h (length c) (coeff r c) (λ k j. (powers R n w (rows_of r rows ri) k j).0) (multiples r n w rows) t (λ k _. shift_value r h (k / n * w) (rows_of r rows ri (k % n)) t)
 
   -- the same over any bound on its length
-  pub row_times : (n w len : ℕ) (c : List E) (ci : (k : ℕ) → IsElem r (coeff r c k)) → ((k : ℕ) → len ≤ k → row_of r (coeff r c) ci k ≡ R.zero) → (rows : ℕ → ℕ → E) (ri : AllIn r rows) (t : ℕ)
+  pub times_bound : (n w len : ℕ) (c : List E) (ci : (k : ℕ) → IsElem r (coeff r c k)) → ((k : ℕ) → len ≤ k → row_of r (coeff r c) ci k ≡ R.zero) → (rows : ℕ → ℕ → E) (ri : AllIn r rows) (t : ℕ)
       → times_rows r n w c rows t ≡ (combine R len (row_of r (coeff r c) ci) (powers R n w (rows_of r rows ri)) t).0
-  row_times n w len c ci short rows ri t =
+  times_bound n w len c ci short rows ri t =
       let room = len + length c in
       let family = powers R n w (rows_of r rows ri) in
       sym (times_value n w c ci rows ri t)

@@ -18,7 +18,7 @@ use Rattle.flat_modules.proofs.Columns.{across, column_added, unit_across}
 use Rattle.flat_reduce.specs.steps.Turns.{IsTurn, Turns, none, turn}
 use Rattle.flat_reduce.specs.steps.Settled.{IsUnsettled}
 use Rattle.flat_reduce.proofs.Reduced.{HasTransform, different_places, added_in, added_is, after_turn, after_turns, start, unit_value}
-use Rattle.flat_reduce.proofs.KernelRows.{row_times}
+use Rattle.flat_reduce.proofs.KernelRows.{times_bound}
 
 module _ {E : Type 0} (r : RingOps E) (inv : E → Option E) (field : IsField r inv) where
   abbrev ring : IsRing r
@@ -89,13 +89,13 @@ module _ {E : Type 0} (r : RingOps E) (inv : E → Option E) (field : IsField r 
         left_flat = left_flat;
         back_flat = back_flat;
         image_flat = image_flat;
-        image_is = λ i t l. row_times r ring n w s.len (row_at left i) (s.left_in i) (s.is.left_short i) (entry r m) mi t ∙ ap (λ a. a.0) (s.is.image_is i t l);
+        image_is = λ i t l. times_bound r ring n w s.len (row_at left i) (s.left_in i) (s.is.left_short i) (entry r m) mi t ∙ ap (λ a. a.0) (s.is.image_is i t l);
         left_back = λ i t l.
-            row_times r ring n n s.len (row_at left i) (s.left_in i) (s.is.left_short i) (entry r back) bi t
+            times_bound r ring n n s.len (row_at left i) (s.left_in i) (s.is.left_short i) (entry r back) bi t
             ∙ ap (λ a. a.0) (times_same S n n s.len (rows_of r (entry r left) s.left_in i) (rows_of r (entry r back) bi) s.back t pos (λ j k lj. same j k lj) ∙ s.is.left_back i t l)
             ∙ sym (unit_value r ring i t);
         back_left = λ i t l.
-            row_times r ring n n s.len (row_at back i) (bi i) (λ k far. same i k l ∙ s.is.back_short i k far) (entry r left) s.left_in t
+            times_bound r ring n n s.len (row_at back i) (bi i) (λ k far. same i k l ∙ s.is.back_short i k far) (entry r left) s.left_in t
             ∙ ap (λ a. a.0) (combine_same S s.len (rows_of r (entry r back) bi i) (s.back i) (powers S n n (rows_of r (entry r left) s.left_in)) t (λ k _. same i k l) ∙ s.is.back_left i t l)
             ∙ sym (unit_value r ring i t);
         places = places;

@@ -1,4 +1,4 @@
-use Rattle.std.proofs.Common.{ℕ, length, ap, ◌∙◌, arith}
+use Rattle.std.proofs.Common.{ℕ, [], length, ap, ◌∙◌, arith}
 use Rattle.ring_core.specs.Coeffs.{first_values}
 use Rattle.ring_core.proofs.FirstValues.{length-first_values, at-first_values}
 use Rattle.linear_algebra.specs.Linear.{row_at}
