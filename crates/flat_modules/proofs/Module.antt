@@ -1,22 +1,21 @@
 -- Modules of rows: what is reached is closed under shifts, and what reaches the rows of a family reaches all that they do.
-use Rattle.std.proofs.Common.{◌≡◌, ℕ, zero, suc, ◌+◌, ◌-◌, ◌*◌, ◌/◌, ◌%◌, ◌<◌, ◌≤◌, true, List, [], ◌∷◌, length, cond, nat_lt, refl, sym, ◌∙◌, ap, arith, lt-ltb, le-ltb, ltb-true, ltb-false}
+use Rattle.std.proofs.Common.{◌≡◌, ℕ, zero, suc, ◌+◌, ◌*◌, ◌/◌, ◌%◌, ◌<◌, ◌≤◌, true, List, [], ◌∷◌, length, cond, nat_lt, refl, sym, ◌∙◌, ap, arith, lt-ltb, le-ltb, ltb-true, ltb-false}
 use Rattle.std.proofs.Math.Nat.{mod-lt, le-mul_of_pos_right}
-use Rattle.std.proofs.lemmas.Bool.{and_from}
-use Rattle.std.proofs.lemmas.Nat.{div-add-mod', le-div}
+use Rattle.std.proofs.lemmas.Nat.{div-add-mod'}
 use Rattle.ring_core.specs.Ring.{RingOps, IsRing}
 use Rattle.ring_core.specs.Coeffs.{coeff, is_canonical, first_values, list_of}
 use Rattle.ring_core.proofs.Carrier.{RingOn, Element, elements, same_element, mul_zero}
-use Rattle.ring_core.proofs.Coefficients.{coeff_past, coeff-list_of, canonical-list_of}
-use Rattle.ring_core.proofs.FirstValues.{length-first_values}
-use Rattle.linear_algebra.specs.Linear.{row_at, entry}
-use Rattle.linear_algebra.proofs.Sums.{combine, total_same, total_zero, by_bool}
+use Rattle.ring_core.proofs.Coefficients.{coeff-list_of, canonical-list_of}
+use Rattle.ring_core.proofs.FirstValues.{length-first_values, at-first_values}
+use Rattle.linear_algebra.specs.Linear.{entry}
+use Rattle.linear_algebra.proofs.Sums.{combine, combine_same, total_zero, by_bool}
 use Rattle.linear_algebra.proofs.Lift.{AreIn, AllIn, row_of, rows_of}
 use Rattle.flat_modules.specs.Flat.{are_flat, combination, IsInModule}
-use Rattle.flat_modules.proofs.Shift.{shift, powers, shift_is, shift_same, combine_powers}
+use Rattle.flat_modules.proofs.Shift.{shift, powers, shift_same, shift_zero, combine_powers}
 use Rattle.flat_modules.proofs.Product.{combine_more}
 use Rattle.flat_modules.proofs.Unique.{Reached}
 use Rattle.flat_modules.proofs.Rest.{reached_zero, reached_add, reached_scale}
-use Rattle.flat_modules.proofs.Lists.{flat_in, row_past, listed, combination_value, longest}
+use Rattle.flat_modules.proofs.Lists.{flat_in, flat_first, row_past, listed, combination_room, longest}
 
 module _ {M : Type 0} (R : RingOn M) (w : ℕ) where
   -- rows of which those from `n` on are zero
@@ -29,13 +28,10 @@ module _ {M : Type 0} (R : RingOn M) (w : ℕ) where
   -- no rows reach zero alone
   pub none_reached : (rows : ℕ → ℕ → M) (x : ℕ → M) → Past 0 rows → Reached R 0 w rows x → (t : ℕ) → x t ≡ R.zero
   none_reached rows x past s t =
-      s.is t ∙ total_zero R s.bound _ (λ k _. ap (R.mul (s.by k)) (shift_is R (k / 0 * w) (rows (k % 0)) t R.zero (λ l. refl) (λ l. past (k % 0) (t - k / 0 * w) (omega arith))) ∙ mul_zero R (s.by k))
-
-  shift_zero : (s : ℕ) (x : ℕ → M) (t : ℕ) → ((j : ℕ) → x j ≡ R.zero) → shift R s x t ≡ R.zero
-  shift_zero s x t z = shift_is R s x t R.zero (λ l. refl) (λ l. z (t - s))
+      s.is t ∙ total_zero R s.bound _ (λ k _. ap (R.mul (s.by k)) (shift_zero R (k / 0 * w) (rows (k % 0)) t (λ j. past (k % 0) j (omega arith))) ∙ mul_zero R (s.by k))
 
   pub reached_shift : (n e : ℕ) (rows : ℕ → ℕ → M) (x : ℕ → M) → Past n rows → Reached R n w rows x → Reached R n w rows (shift R (e * w) x)
-  reached_shift zero e rows x past s = reached_zero R 0 w rows _ (λ t. shift_zero (e * w) x t (none_reached rows x past s))
+  reached_shift zero e rows x past s = reached_zero R 0 w rows _ (λ t. shift_zero R (e * w) x t (none_reached rows x past s))
   reached_shift (suc n) e rows x past s = record {
     bound = e * suc n + s.bound;
     by = shift R (e * suc n) s.by;
@@ -46,7 +42,7 @@ module _ {M : Type 0} (R : RingOn M) (w : ℕ) where
     power_reached : (k : ℕ) → Reached R m w b (powers R n w a k)
     power_reached k = by_bool (nat_lt (k % n) n)
         (λ v. reached_shift m (k / n) b (a (k % n)) pb (h (k % n) (ltb-true (k % n) n v)))
-        (λ v. reached_zero R m w b _ (λ t. shift_zero (k / n * w) (a (k % n)) t (λ j. pa (k % n) j (ltb-false (k % n) n v))))
+        (λ v. reached_zero R m w b _ (λ t. shift_zero R (k / n * w) (a (k % n)) t (λ j. pa (k % n) j (ltb-false (k % n) n v))))
 
     sum_reached : (k : ℕ) (c : ℕ → M) → Reached R m w b (combine R k c (powers R n w a))
     sum_reached zero c = reached_zero R m w b _ (λ t. refl)
@@ -55,16 +51,6 @@ module _ {M : Type 0} (R : RingOn M) (w : ℕ) where
     -- what the rows reach is reached by what reaches the rows
     pub reached_into : (x : ℕ → M) → Reached R n w a x → Reached R m w b x
     reached_into x s = reached_as m b (combine R s.bound s.by (powers R n w a)) x s.is (sum_reached s.bound s.by)
-
--- the rows of a list made of its values
-row_first : {X : Type 0} (n : ℕ) (f : ℕ → List X) (i : ℕ) → i < n → row_at (first_values n f) i ≡ f i
-row_first zero f i l = absurd (omega arith)
-row_first (suc n) f zero l = refl
-row_first (suc n) f (suc i) l = row_first n (λ j. f (suc j)) i (omega arith)
-
-flat_first : {E : Type 0} (r : RingOps E) (n : ℕ) (f : ℕ → List E) → ((i : ℕ) → is_canonical r (f i) ≡ true) → are_flat r (first_values n f) ≡ true
-flat_first r zero f h = refl
-flat_first r (suc n) f h = and_from _ _ (h 0) (flat_first r n (λ j. f (suc j)) (λ i. h (suc i)))
 
 module _ {E : Type 0} (r : RingOps E) (h : IsRing r) where
   abbrev R : RingOn (Element r)
@@ -115,24 +101,17 @@ module _ {E : Type 0} (r : RingOps E) (h : IsRing r) where
 
         listed_is : (k : ℕ) → listed r h w rows polys ri polys_flat k ≡ cut k
         listed_is k = same_element r _ _
-            (ap (λ u. coeff r u (k / n)) (row_first n poly (k % n) (mod-lt k posn)) ∙ poly_coeff (k % n) (k / n)
+            (ap (λ u. coeff r u (k / n)) (at-first_values n poly (k % n) [] (mod-lt k posn)) ∙ poly_coeff (k % n) (k / n)
             ∙ ap (λ j. (cut j).0) (div-add-mod' k n))
 
         sum_is : (t : ℕ) → coeff r x t ≡ combination r w rows polys t
         sum_is t =
-            let b = (longest r polys).0 * n in
-            let room = s.bound + b in
-            let past : (k : ℕ) → b ≤ k → listed r h w rows polys ri polys_flat k ≡ R.zero = λ k far.
-            let q = le-div (longest r polys).0 k n posn far in
-            let l = (longest r polys).1 (k % n) in
-            same_element r _ _ (coeff_past r (row_at polys (k % n)) (k / n) (omega (arith, q, l))) in
+            let room = s.bound + (longest r polys).0 * n in
             ap (λ a. a.0)
-            (s.is t
-            ∙ sym (total_same R s.bound _ _ (λ k l. ap (λ a. R.mul a (powers R n w v k t)) (cut_low k l)))
+            (s.is t ∙ sym (combine_same R s.bound cut _ (powers R n w v) t cut_low)
             ∙ sym (combine_more R s.bound room cut (powers R n w v) t (omega arith) cut_past)
-            ∙ sym (total_same R room _ _ (λ k l. ap (λ a. R.mul a (powers R n w v k t)) (listed_is k)))
-            ∙ combine_more R b room (listed r h w rows polys ri polys_flat) (powers R n w v) t (omega arith) past)
-            ∙ combination_value r h w rows polys ri polys_flat t
+            ∙ sym (combine_same R room _ cut (powers R n w v) t (λ k _. listed_is k)))
+            ∙ combination_room r h w rows polys ri polys_flat posn room t (omega arith)
 
   pub from_reached : (w : ℕ) (rows : List (List E)) (ri : are_flat r rows ≡ true) (x : List E) (xi : AreIn r (coeff r x))
       → Reached R (length rows) w (rows_of r (entry r rows) (flat_in r h rows ri)) (row_of r (coeff r x) xi) → IsInModule r w rows x

@@ -1,55 +1,50 @@
 -- The rows of the transform at zero rows of the image are a basis of the relations.
-use Rattle.std.proofs.Common.{◌≡◌, ℕ, zero, suc, ◌+◌, ◌*◌, ◌/◌, ◌%◌, ◌<◌, ◌≤◌, ◌⊎◌, inl, inr, true, false, Bool, not, Option, List, [], length, nat_lt, refl, sym, ◌∙◌, ap, ap₂, arith, ext_get_or, ltb-true, ltb-false}
-use Rattle.std.proofs.Math.Nat.{div-mul-le_self, le-mul_of_pos_right}
-use Rattle.std.proofs.lemmas.Bool.{and_parts, and_from}
-use Rattle.std.proofs.lemmas.Nat.{div-mul-add, mod-mul-add, le-div}
+use Rattle.std.proofs.Common.{◌≡◌, ℕ, suc, ◌+◌, ◌*◌, ◌/◌, ◌%◌, ◌<◌, ◌≤◌, inl, inr, true, Bool, not, Option, List, [], length, nat_lt, sym, ◌∙◌, ap, ap₂, arith, ext_get_or, ltb-true, ltb-false}
+use Rattle.std.proofs.Math.Nat.{mod-lt, mul-le-mul_right, div-mul-le_self, le-mul_of_pos_right}
+use Rattle.std.proofs.lemmas.Bool.{and_parts, not-false}
+use Rattle.std.proofs.lemmas.Nat.{div-add-mod', div-mul-add, mod-mul-add}
 use Rattle.ring_core.specs.Ring.{RingOps, IsElem, IsRing}
 use Rattle.ring_core.specs.Field.{IsField}
-use Rattle.ring_core.specs.Coeffs.{coeff, sum_below, is_canonical, are_elems, is_trimmed, first_values, list_of}
+use Rattle.ring_core.specs.Coeffs.{coeff, is_canonical, are_elems, is_trimmed, first_values, list_of}
 use Rattle.ring_core.proofs.Carrier.{RingOn, Element, elements, same_element, zero_mul, mul_zero}
 use Rattle.ring_core.proofs.Coefficients.{elem_read, coeff_past, coeff-list_of, canonical-list_of, same_coeffs, length-trim}
-use Rattle.ring_core.proofs.FirstValues.{length-first_values}
+use Rattle.ring_core.proofs.FirstValues.{length-first_values, at-first_values}
 use Rattle.ring_core.proofs.Series.{total}
-use Rattle.linear_algebra.specs.Combines.{combined}
+use Rattle.ring_core.proofs.Twist.{total_is, sum_same}
 use Rattle.linear_algebra.specs.Linear.{row_at, entry}
-use Rattle.linear_algebra.proofs.Sums.{combine, total_same, total_zero, by_bool, same_or_other}
-use Rattle.linear_algebra.proofs.Lift.{AllIn, rows_of, row_of, combine_value}
+use Rattle.linear_algebra.proofs.Sums.{combine, unit, unit_same, unit_other, combine_same, total_zero, total_single, by_bool, same_or_other}
+use Rattle.linear_algebra.proofs.Lift.{AllIn, rows_of, row_of, combine_value, combined_rows}
 use Rattle.linear_algebra.proofs.Gather.{leads, lead_number, total_leads, are_leads}
-use Rattle.linear_algebra.proofs.Echelon.{find_place}
 use Rattle.linear_algebra.proofs.Dependent.{field_domain}
 use Rattle.flat_modules.specs.Flat.{are_flat, lead_at, shifted, times, combination, multiples, times_rows, IsOnlyCombination}
-use Rattle.flat_modules.proofs.Lists.{flat_at, shift_value, longest}
-use Rattle.flat_modules.proofs.Shift.{shift, powers, shift_is}
-use Rattle.flat_modules.proofs.Product.{combine_more}
+use Rattle.flat_modules.proofs.Lists.{flat_at, flat_in, flat_first, shift_value, longest, listed, combination_room}
+use Rattle.flat_modules.proofs.Shift.{shift, powers, shift_end, shift_unit}
+use Rattle.flat_modules.proofs.Product.{combine_more, flat_assoc}
 use Rattle.flat_modules.proofs.Blocks.{flat_sum}
 use Rattle.flat_modules.proofs.Places.{HasPlaces}
-use Rattle.flat_modules.proofs.Matrix.{times_left, is_times_left, zero_at_live, only_left}
+use Rattle.flat_modules.proofs.Matrix.{times_same, times_left, is_times_left, zero_at_live}
 use Rattle.flat_reduce.proofs.Reduced.{HasTransform}
-
--- the rows of a list made of its values
-pub row_first : {X : Type 0} (n : ℕ) (f : ℕ → List X) (i : ℕ) → i < n → row_at (first_values n f) i ≡ f i
-row_first zero f i l = absurd (omega arith)
-row_first (suc n) f zero l = refl
-row_first (suc n) f (suc i) l = row_first n (λ j. f (suc j)) i (omega arith)
-
-pub flat_first : {E : Type 0} (r : RingOps E) (n : ℕ) (f : ℕ → List E) → ((i : ℕ) → is_canonical r (f i) ≡ true) → are_flat r (first_values n f) ≡ true
-flat_first r zero f h = refl
-flat_first r (suc n) f h = and_from _ _ (h 0) (flat_first r n (λ j. f (suc j)) (λ i. h (suc i)))
 
 module _ {E : Type 0} (r : RingOps E) (h : IsRing r) where
   abbrev R : RingOn (Element r)
   R = elements h
-
-  combined_same : (n : ℕ) (c : ℕ → E) (a b : ℕ → ℕ → E) (t : ℕ) → ((i : ℕ) → a i t ≡ b i t) → combined r n c a t ≡ combined r n c b t
-  combined_same zero c a b t e = refl
-  combined_same (suc n) c a b t e = ap₂ r.add (combined_same n c a b t e) (ap (r.mul (c n)) (e n))
 
   -- a row of coefficients times rows
   pub times_value : (n w : ℕ) (c : List E) (ci : (k : ℕ) → IsElem r (coeff r c k)) (rows : ℕ → ℕ → E) (ri : AllIn r rows) (t : ℕ)
       → (combine R (length c) (row_of r (coeff r c) ci) (powers R n w (rows_of r rows ri)) t).0 ≡ times_rows r n w c rows t
   times_value n w c ci rows ri t =
       combine_value r h (length c) (row_of r (coeff r c) ci) (powers R n w (rows_of r rows ri)) t
-      ∙ combined_same (length c) (coeff r c) (λ k j. (powers R n w (rows_of r rows ri) k j).0) (multiples r n w rows) t (λ k. shift_value r h (k / n * w) (rows_of r rows ri (k % n)) t)
+      ∙ combined_rows r h (length c) (coeff r c) (λ k j. (powers R n w (rows_of r rows ri) k j).0) (multiples r n w rows) t (λ k _. shift_value r h (k / n * w) (rows_of r rows ri (k % n)) t)
+
+  -- the same over any bound on its length
+  pub times_bound : (n w len : ℕ) (c : List E) (ci : (k : ℕ) → IsElem r (coeff r c k)) → ((k : ℕ) → len ≤ k → row_of r (coeff r c) ci k ≡ R.zero) → (rows : ℕ → ℕ → E) (ri : AllIn r rows) (t : ℕ)
+      → times_rows r n w c rows t ≡ (combine R len (row_of r (coeff r c) ci) (powers R n w (rows_of r rows ri)) t).0
+  times_bound n w len c ci short rows ri t =
+      let room = len + length c in
+      let family = powers R n w (rows_of r rows ri) in
+      sym (times_value n w c ci rows ri t)
+      ∙ ap (λ a. a.0) (sym (combine_more R (length c) room (row_of r (coeff r c) ci) family t (omega arith) (λ k far. same_element r _ _ (coeff_past r c k far)))
+      ∙ combine_more R len room (row_of r (coeff r c) ci) family t (omega arith) short)
 
   -- a polynomial times a row
   pub poly_value : (n b : ℕ) (p : List E) (pi : (k : ℕ) → IsElem r (coeff r p k)) (u : ℕ → Element r) (t : ℕ) → length p ≤ b
@@ -57,15 +52,11 @@ module _ {E : Type 0} (r : RingOps E) (h : IsRing r) where
   poly_value n b p pi u t l =
       ap (λ x. x.0) (combine_more R (length p) b (row_of r (coeff r p) pi) (λ s. shift R (s * n) u) t l (λ k far. same_element r _ _ (coeff_past r p k far)))
       ∙ combine_value r h (length p) (row_of r (coeff r p) pi) (λ s. shift R (s * n) u) t
-      ∙ combined_same (length p) (coeff r p) (λ s k. (shift R (s * n) u k).0) (λ s. shifted r (s * n) (λ k. (u k).0)) t (λ s. shift_value r h (s * n) u t)
-
-  pub sums : (n : ℕ) (f : ℕ → Element r) (g : ℕ → E) → ((i : ℕ) → i < n → (f i).0 ≡ g i) → (total R n f).0 ≡ sum_below r n g
-  sums zero f g e = refl
-  sums (suc n) f g e = ap₂ r.add (sums n f g (λ i l. e i (omega arith))) (e n (omega arith))
+      ∙ combined_rows r h (length p) (coeff r p) (λ s k. (shift R (s * n) u k).0) (λ s. shifted r (s * n) (λ k. (u k).0)) t (λ s _. shift_value r h (s * n) u t)
 
 module _ {E : Type 0} (r : RingOps E) (inv : E → Option E) (field : IsField r inv) (w : ℕ) (m image left : List (List E)) (mi : AllIn r (entry r m)) (posn : 0 < length m) (posw : 0 < w)
     (s : HasTransform r field.ring w m image left mi) (live : ℕ → Bool) (low : (k : ℕ) → live k ≡ true → k < length m) (places : HasPlaces (elements field.ring) w live (lead_at image) (rows_of r (entry r image) s.image_in))
-    (rows : List (List E)) (count : length rows ≡ length (leads (λ k. not (live k)) (length m)))
+    (rows : List (List E)) (ri : are_flat r rows ≡ true) (count : length rows ≡ length (leads (λ k. not (live k)) (length m)))
     (is_row : (j : ℕ) → j < length rows → row_at rows j ≡ row_at left (lead_number (λ k. not (live k)) (length m) j))
     (c : List E) (ce : is_canonical r c ≡ true) (relation : (t : ℕ) → times_rows r (length m) w c (entry r m) t ≡ r.zero) where
   abbrev ring : IsRing r
@@ -111,7 +102,7 @@ module _ {E : Type 0} (r : RingOps E) (inv : E → Option E) (field : IsField r 
   by_short : (k : ℕ) → room ≤ k → by k ≡ S.zero
   by_short k far = total_zero S (length c) _ (λ j l.
       let v = div-mul-le_self j n in
-      ap (S.mul (row j)) (shift_is S (j / n * n) (s.back (j % n)) k S.zero (λ b. refl) (λ b. s.is.back_short (j % n) _ (omega (arith, far, v, l, b)))) ∙ mul_zero S (row j))
+      ap (S.mul (row j)) (shift_end S (j / n * n) s.len (s.back (j % n)) k (s.is.back_short (j % n)) (omega (arith, far, v, l))) ∙ mul_zero S (row j))
 
   -- the polynomial over row `i` of `left`
   poly : ℕ → List E
@@ -153,102 +144,67 @@ module _ {E : Type 0} (r : RingOps E) (inv : E → Option E) (field : IsField r 
         (λ b. let l : k ≤ j = ltb-false j k b in let v = (are_leads dead n).rising k j (omega (arith, l, ne)) (omega (arith, lj, count)) in absurd (omega (arith, v, e)))
   ]
 
-  never : {b : Bool} → b ≡ true → b ≡ false → ⊥
-  never e f = cc
+  zeros : (i j : ℕ) → live i ≡ true → by (j * n + i) ≡ S.zero
+  zeros i j v = by_bool (nat_lt (j * n + i) room)
+      (λ b. by_live (j * n + i) (ltb-true (j * n + i) room b) (ap live (mod-mul-add j n i (low i v)) ∙ v))
+      (λ b. by_short (j * n + i) (ltb-false (j * n + i) room b))
 
-  is_live : (k : ℕ) → dead k ≡ false → live k ≡ true
-  is_live k e = by_bool (live k) (λ b. b) (λ b. absurd (never (ap not b) e))
-
-  -- a combination over `left` with coefficients that are zero at live rows is one of the rows of the answer
-  by_rows : (b : ℕ) (e : ℕ → Element r) (polys : List (List E)) (pi : are_flat r polys ≡ true) → ((i j : ℕ) → i < n → live i ≡ true → e (j * n + i) ≡ S.zero)
-      → ((j i : ℕ) → j < length rows → (e (i * n + at j)).0 ≡ coeff r (row_at polys j) i) → ((j : ℕ) → j < length rows → length (row_at polys j) ≤ b)
-      → (t : ℕ) → (combine S (b * n) e (powers S n n lefts) t).0 ≡ combination r n rows polys t
-  by_rows b e polys pi zeros is few t =
-      ap (λ x. x.0)
-      (flat_sum S n n b e lefts t
-      ∙ total_leads S dead n _ (λ i u. let v = is_live i u in let l = low i v in total_zero S b _ (λ j _. ap (λ x. S.mul x (shift S (j * n) (lefts i) t)) (zeros i j l v) ∙ zero_mul S _))
-      ∙ ap (λ k. total S k (λ j. combine S b (λ i. e (i * n + at j)) (λ i. shift S (i * n) (lefts (at j))) t)) (sym count))
-      ∙ sums r ring (length rows) _ _ (λ j l.
-      let pj : (k : ℕ) → IsElem r (coeff r (row_at polys j) k) = elem_read r (row_at polys j) ring.closed.zero_in (and_parts (are_elems r (row_at polys j)) (is_trimmed r (row_at polys j)) (flat_at r polys pi j)).0 in
-      ap (λ x. x.0) (total_same S b _ _ (λ i _. ap (λ x. S.mul x (shift S (i * n) (lefts (at j)) t)) (same_element r (e (i * n + at j)) (coeff r (row_at polys j) i, pj i) (is j i l))))
-      ∙ poly_value r ring n b (row_at polys j) pj (lefts (at j)) t (few j l)
-      ∙ ap (λ u. times r n (row_at polys j) (coeff r u) t) (sym (is_row j l)))
+  poly_sum : (i t : ℕ) → (combine S room (λ e. by (e * n + i)) (λ e. shift S (e * n) (lefts i)) t).0 ≡ times r n (poly i) (coeff r (row_at left i)) t
+  poly_sum i t =
+      let pi : (k : ℕ) → IsElem r (coeff r (poly i) k) = elem_read r (poly i) ring.closed.zero_in (and_parts (are_elems r (poly i)) (is_trimmed r (poly i)) (poly_flat i)).0 in
+      ap (λ x. x.0) (combine_same S room _ (row_of r (coeff r (poly i)) pi) (λ e. shift S (e * n) (lefts i)) t (λ e _. same_element r _ _ (sym (poly_coeff i e))))
+      ∙ poly_value r ring n room (poly i) pi (lefts i) t (poly_short i)
 
   abbrev polys : List (List E)
   polys = first_values (length rows) (λ j. poly (at j))
 
-  zeros : (i j : ℕ) → i < n → live i ≡ true → by (j * n + i) ≡ S.zero
-  zeros i j l v = by_bool (nat_lt (j * n + i) room)
-      (λ b. by_live (j * n + i) (ltb-true (j * n + i) room b) (ap live (mod-mul-add j n i l) ∙ v))
-      (λ b. by_short (j * n + i) (ltb-false (j * n + i) room b))
-
+  -- the coefficients are zero at live rows, so the rows of the answer suffice
   sum_is : (t : ℕ) → coeff r c t ≡ combination r n rows polys t
   sum_is t =
-      ap (λ x. x.0) (sym (by_left t) ∙ sym (combine_more S room (room * n) by (powers S n n lefts) t (le-mul_of_pos_right room posn) by_short))
-      ∙ by_rows room by polys (flat_first r (length rows) (λ j. poly (at j)) (λ j. poly_flat (at j))) zeros
-      (λ j i l. sym (ap (λ u. coeff r u i) (row_first (length rows) (λ j. poly (at j)) j l) ∙ poly_coeff (at j) i))
-      (λ j l. let v = ap length (row_first (length rows) (λ j. poly (at j)) j l) in let u = poly_short (at j) in omega (arith, v, u)) t
+      ap (λ x. x.0)
+      (sym (by_left t) ∙ sym (combine_more S room (room * n) by (powers S n n lefts) t (le-mul_of_pos_right room posn) by_short)
+      ∙ flat_sum S n n room by lefts t
+      ∙ total_leads S dead n _ (λ i u. total_zero S room _ (λ j _. ap (λ x. S.mul x (shift S (j * n) (lefts i) t)) (zeros i j (not-false (live i) u)) ∙ zero_mul S _))
+      ∙ ap (λ k. total S k (λ j. combine S room (λ i. by (i * n + at j)) (λ i. shift S (i * n) (lefts (at j))) t)) (sym count))
+      ∙ total_is r ring (length rows) _
+      ∙ sum_same r ring (length rows) _ _ (λ j l.
+      poly_sum (at j) t ∙ ap₂ (λ p u. times r n p (coeff r u) t) (sym (at-first_values (length rows) (λ j. poly (at j)) j [] l)) (sym (is_row j l)))
 
-  module _ (other : List (List E)) (len : length other ≡ length rows) (oi : are_flat r other ≡ true) (is : (t : ℕ) → coeff r c t ≡ combination r n rows other t) where
-    other_in : (j k : ℕ) → IsElem r (coeff r (row_at other j) k)
-    other_in j = elem_read r (row_at other j) ring.closed.zero_in (and_parts (are_elems r (row_at other j)) (is_trimmed r (row_at other j)) (flat_at r other oi j)).0
-
-    read : (k : ℕ) → ((j : ℕ) × (j < length rows) × (at j ≡ k % n)) ⊎ ((j : ℕ) → j < length rows → at j ≡ k % n → ⊥) → Element r
-    read k (inl s) = (coeff r (row_at other s.0) (k / n), other_in s.0 (k / n))
-    read k (inr none) = S.zero
-
-    spread : ℕ → Element r
-    spread k = read k (find_place (length rows) at (k % n))
-
-    abbrev bound : ℕ
-    bound = (longest r other).0 + length c
-
-    read_short : (k : ℕ) (o : ((j : ℕ) × (j < length rows) × (at j ≡ k % n)) ⊎ ((j : ℕ) → j < length rows → at j ≡ k % n → ⊥)) → bound ≤ k / n → read k o ≡ S.zero
-    unfolding read
-    read_short k (inl s) l = same_element r _ _ (coeff_past r (row_at other s.0) (k / n) (let v = (longest r other).1 s.0 in omega (arith, v, l)))
-    read_short k (inr none) l = refl
-
-    read_at : (k j : ℕ) (o : ((j : ℕ) × (j < length rows) × (at j ≡ k % n)) ⊎ ((j : ℕ) → j < length rows → at j ≡ k % n → ⊥)) → j < length rows → at j ≡ k % n → (read k o).0 ≡ coeff r (row_at other j) (k / n)
-    unfolding read
-    read_at k j (inl s) l e = ap (λ i. coeff r (row_at other i) (k / n)) (at_apart s.0 j s.1 l (s.2 ∙ sym e))
-    read_at k j (inr none) l e = absurd (none j l e)
-
-    read_live : (k : ℕ) (o : ((j : ℕ) × (j < length rows) × (at j ≡ k % n)) ⊎ ((j : ℕ) → j < length rows → at j ≡ k % n → ⊥)) → live (k % n) ≡ true → read k o ≡ S.zero
-    unfolding read
-    read_live k (inl s) v = absurd (never (at_dead s.0 s.1) (ap (λ i. not (live i)) s.2 ∙ ap not v))
-    read_live k (inr none) v = refl
-
-    spread_at : (j i : ℕ) → j < length rows → (spread (i * n + at j)).0 ≡ coeff r (row_at other j) i
-    unfolding spread
-    spread_at j i l =
-        read_at (i * n + at j) j (find_place (length rows) at ((i * n + at j) % n)) l (sym (mod-mul-add i n (at j) (at_low j l)))
-        ∙ ap (coeff r (row_at other j)) (div-mul-add i n (at j) (at_low j l))
-
-    spread_short : (k : ℕ) → bound * n ≤ k → spread k ≡ S.zero
-    unfolding spread
-    spread_short k l = read_short k (find_place (length rows) at (k % n)) (le-div bound k n posn l)
-
-    spread_live : (i j : ℕ) → i < n → live i ≡ true → spread (j * n + i) ≡ S.zero
-    unfolding spread
-    spread_live i j l v = read_live (j * n + i) (find_place (length rows) at ((j * n + i) % n)) (ap live (mod-mul-add j n i l) ∙ v)
-
-    spread_is : (t : ℕ) → row t ≡ combine S (bound * n) spread (powers S n n lefts) t
-    spread_is t = same_element r _ _ (is t ∙ sym (by_rows bound spread other oi spread_live spread_at (λ j l. let v = (longest r other).1 j in omega (arith, v)) t))
-
-    same_by : (k : ℕ) → spread k ≡ by k
-    same_by k =
-        let v = le-mul_of_pos_right bound posn in
-        only_left S (field_domain r inv field) n w s.len posn posw lefts s.back (rows_of r (entry r m) mi) (rows_of r (entry r image) s.image_in) s.is live (lead_at image) places (length c) row row_short
-        (bound * n) spread spread_short spread_is (omega (arith, v)) k
-        ∙ combine_more S (length c) (bound * n + s.len) row (powers S n n s.back) k (omega (arith, v)) row_short
-
-    other_is : other ≡ polys
-    other_is = ext_get_or [] other polys (len ∙ sym (length-first_values (length rows) (λ j. poly (at j)))) (λ j l.
-        let inside : j < length rows = omega (arith, l, len) in
-        same_coeffs r ring.closed.zero_in ring.equal (row_at other j) (poly (at j)) (and_parts (are_elems r (row_at other j)) (is_trimmed r (row_at other j)) (flat_at r other oi j)).1
-        (and_parts (are_elems r (poly (at j))) (is_trimmed r (poly (at j))) (poly_flat (at j))).1
-        (λ i. sym (spread_at j i inside) ∙ ap (λ x. x.0) (same_by (i * n + at j)) ∙ sym (poly_coeff (at j) i))
-        ∙ sym (row_first (length rows) (λ j. poly (at j)) j inside))
+  -- a combination of the rows, times `back`, has the coefficients themselves
+  other_at : (other : List (List E)) → are_flat r other ≡ true → ((t : ℕ) → coeff r c t ≡ combination r n rows other t) → (j i : ℕ) → j < length rows → coeff r (row_at other j) i ≡ (by (i * n + at j)).0
+  other_at other oi is j i l =
+      let count = length rows in
+      let pos : 0 < count = omega (arith, l) in
+      let place = i * count + j in
+      let most = (longest r other).0 * count + suc place in
+      let big = most * n + s.len + length c in
+      let coeffs : ℕ → Element r = listed r ring n rows other ri oi in
+      let v : ℕ → ℕ → Element r = rows_of r (entry r rows) (flat_in r ring rows ri) in
+      let is_left : (k t : ℕ) → k < count → v k t ≡ lefts (at k) t = λ k t b. same_element r _ _ (ap (λ u. coeff r u t) (is_row k b)) in
+      let fits : (k : ℕ) → k < most → k / count * n + s.len ≤ big = λ k b.
+      let a = div-mul-le_self k count in
+      let d = le-mul_of_pos_right (k / count) pos in
+      let m = mul-le-mul_right {m = k / count} {n = most} n (omega (arith, a, d, b)) in
+      omega (arith, m)
+      in
+      let same : (k : ℕ) → k / count * n + at (k % count) ≡ i * n + at j → k ≡ place = λ k e.
+      let b = mod-lt k {m = count} pos in
+      let rest = sym (mod-mul-add (k / count) n (at (k % count)) (at_low (k % count) b)) ∙ ap (λ x. x % n) e ∙ mod-mul-add i n (at j) (at_low j l) in
+      let quotient = sym (div-mul-add (k / count) n (at (k % count)) (at_low (k % count) b)) ∙ ap (λ x. x / n) e ∙ div-mul-add i n (at j) (at_low j l) in
+      sym (div-add-mod' k count) ∙ ap₂ (λ x y. x * count + y) quotient (at_apart (k % count) j b l rest)
+      in
+      sym (ap (λ x. x.0)
+      (sym (combine_more S (length c) big row (powers S n n s.back) (i * n + at j) (omega arith) row_short)
+      ∙ combine_same S big row _ (powers S n n s.back) (i * n + at j) (λ q _. same_element r _ _ (is q ∙ sym (combination_room r ring n rows other ri oi pos most q (omega arith))))
+      ∙ flat_assoc S count n n s.len posn v s.back (λ k t far. is_left (k % count) t (mod-lt k pos) ∙ s.is.left_short (at (k % count)) t far) big most coeffs (i * n + at j) fits
+      ∙ times_same S count n most coeffs _ (λ k. unit S (at k)) (i * n + at j) pos
+      (λ k t b. combine_same S s.len (v k) (lefts (at k)) (powers S n n s.back) t (λ q _. is_left k q b) ∙ s.is.left_back (at k) t (at_low k b))
+      ∙ total_single S most place _ (omega arith)
+      (λ k _ ne. ap (S.mul (coeffs k)) (shift_unit S (k / count * n) (at (k % count)) (i * n + at j) ∙ unit_other S _ _ (λ e. ne (same k e))) ∙ mul_zero S (coeffs k))
+      ∙ ap (S.mul (coeffs place)) (shift_unit S (place / count * n) (at (place % count)) (i * n + at j)
+      ∙ unit_same S _ _ (ap₂ (λ x y. x * n + at y) (div-mul-add i count j l) (mod-mul-add i count j l)))
+      ∙ S.mul_one (coeffs place))
+      ∙ ap₂ (λ x y. coeff r (row_at other x) y) (mod-mul-add i count j l) (div-mul-add i count j l))
 
   -- each relation is one combination of the rows
   pub only_rows : IsOnlyCombination r n rows c
@@ -257,5 +213,9 @@ module _ {E : Type 0} (r : RingOps E) (inv : E → Option E) (field : IsField r 
     len = length-first_values (length rows) (λ j. poly (at j));
     polys = flat_first r (length rows) (λ j. poly (at j)) (λ j. poly_flat (at j));
     is = sum_is;
-    only = λ other len oi is. other_is other len oi is;
+    only = λ other len oi is. ext_get_or [] other polys (len ∙ sym (length-first_values (length rows) (λ j. poly (at j)))) (λ j l.
+        let inside : j < length rows = omega (arith, l, len) in
+        same_coeffs r ring.closed.zero_in ring.equal (row_at other j) (poly (at j)) (and_parts (are_elems r (row_at other j)) (is_trimmed r (row_at other j)) (flat_at r other oi j)).1
+        (and_parts (are_elems r (poly (at j))) (is_trimmed r (poly (at j))) (poly_flat (at j))).1 (λ i. other_at other oi is j i inside ∙ sym (poly_coeff (at j) i))
+        ∙ sym (at-first_values (length rows) (λ j. poly (at j)) j [] inside));
   }

@@ -1,9 +1,9 @@
 -- What came about by turns has an invertible transform; settled rows have different lead places.
-use Rattle.std.proofs.Common.{◌≡◌, ◌≢◌, ℕ, ◌+◌, ◌*◌, ◌<◌, ◌≤◌, inl, inr, true, Bool, Option, List, [], length, cond, nat_lt, refl, sym, ◌∙◌, ap, ap₂, arith, eq-eqb, ne_eqb, ltb-true, ltb-false}
+use Rattle.std.proofs.Common.{◌≡◌, ◌≢◌, ℕ, ◌+◌, ◌*◌, ◌%◌, ◌<◌, ◌≤◌, inl, inr, true, Bool, Option, List, [], length, cond, nat_lt, refl, sym, ◌∙◌, ap, ap₂, arith, eq-eqb, ne_eqb, ltb-true, ltb-false}
 use Rattle.std.proofs.lemmas.Bool.{and_parts}
 use Rattle.ring_core.specs.Ring.{RingOps, IsElem, IsRing}
 use Rattle.ring_core.specs.Coeffs.{coeff, are_elems, is_trimmed}
-use Rattle.ring_core.proofs.Carrier.{RingOn, Element, elements, same_element, add_zero}
+use Rattle.ring_core.proofs.Carrier.{RingOn, Element, elements, same_element, add_zero, zero_mul}
 use Rattle.ring_core.proofs.Coefficients.{coeff_past}
 use Rattle.ring_core.proofs.Degrees.{top_nonzero}
 use Rattle.linear_algebra.specs.Linear.{row_at, entry}
@@ -35,14 +35,14 @@ module _ {E : Type 0} (r : RingOps E) (h : IsRing r) where
       → (i t : ℕ) → rows_of r (entry r after) ai i t ≡ row_added R p q (c, ci) e w (rows_of r (entry r before) bi) i t
   added_is p q e w c ci before after bi ai added i t =
       let rows = rows_of r (entry r before) bi in
-      let part : Element r = R.mul (c, ci) (shift R (e * w) (rows q) t) in
+      let part = shift R (e * w) (rows q) t in
       elim (same_or_other i p) [
         | inl is ↦
             same_element r _ _ (ap (λ k. entry r after k t) is ∙ added.here t ∙ ap₂ (λ k v. r.add (entry r before k t) (r.mul c v)) (sym is) (sym (shift_value r h (e * w) (rows q) t)))
-            ∙ ap (λ b. R.add (rows i t) (cond b part R.zero)) (sym (eq-eqb i p is))
+            ∙ ap (λ b. R.add (rows i t) (R.mul (cond b (c, ci) R.zero) part)) (sym (eq-eqb i p is))
         | inr ne ↦
-            same_element r _ _ (added.rest i t ne) ∙ sym (add_zero R (rows i t))
-            ∙ ap (λ b. R.add (rows i t) (cond b part R.zero)) (sym (ne_eqb i p ne))
+            same_element r _ _ (added.rest i t ne) ∙ sym (ap (R.add (rows i t)) (zero_mul R part) ∙ add_zero R (rows i t))
+            ∙ ap (λ b. R.add (rows i t) (R.mul (cond b (c, ci) R.zero) part)) (sym (ne_eqb i p ne))
       ]
 
   pub unit_value : (i t : ℕ) → unit_at r i t ≡ (unit R i t).0
@@ -98,7 +98,17 @@ module _ {E : Type 0} (r : RingOps E) (h : IsRing r) where
             (λ i t l. refl);
       }
 
--- settled rows
+-- rows that are settled have different lead places
+module _ {E : Type 0} (r : RingOps E) (w n : ℕ) (slot : List (Option ℕ)) (image : List (List E)) (whole : length image ≡ n) (settled : IsUnsettled w n n slot image) where
+  row_inside : (j : ℕ) → row_at image j ≢ [] → j < n
+  row_inside j nz = by_bool (nat_lt j n) (λ b. ltb-true j n b) (λ b. let l : n ≤ j = ltb-false j n b in absurd (nz (row_past r image j (omega (arith, l, whole)))))
+
+  pub different_places : (i k : ℕ) → row_at image i ≢ [] → row_at image k ≢ [] → i ≢ k → lead_at image i % w ≢ lead_at image k % w
+  different_places i k ni nk ne e =
+      let a = row_inside i ni in
+      let b = row_inside k nk in
+      ne (some_same i k (sym (settled.all i (omega (arith, a)) (λ u. omega (arith, u, a)) ni) ∙ ap (slot_of slot) e ∙ settled.all k (omega (arith, b)) (λ u. omega (arith, u, b)) nk))
+
 module _ {E : Type 0} (r : RingOps E) (h : IsRing r) (w n : ℕ) (slot : List (Option ℕ)) (image : List (List E)) (fi : are_flat r image ≡ true) (ii : AllIn r (entry r image)) (whole : length image ≡ n)
     (settled : IsUnsettled w n n slot image) where
   abbrev pub live : ℕ → Bool
@@ -108,17 +118,12 @@ module _ {E : Type 0} (r : RingOps E) (h : IsRing r) (w n : ℕ) (slot : List (O
   full k e z = let l = ltb-true 0 (length (row_at image k)) e in let v = ap length z in omega (arith, l, v)
 
   pub inside : (k : ℕ) → live k ≡ true → k < n
-  inside k e = by_bool (nat_lt k n)
-      (λ b. ltb-true k n b)
-      (λ b. let l : n ≤ k = ltb-false k n b in absurd (full k e (row_past r image k (omega (arith, l, whole)))))
+  inside k e = row_inside r w n slot image whole settled k (full k e)
 
   pub settled_places : HasPlaces (elements h) w live (lead_at image) (rows_of r (entry r image) ii)
   settled_places = record {
     absent = λ k t e. let l : length (row_at image k) ≤ 0 = ltb-false 0 (length (row_at image k)) e in same_element r _ _ (coeff_past r (row_at image k) t (omega (arith, l)));
     nonzero = λ k e z. top_nonzero r h.closed.zero_in h.equal (row_at image k) (and_parts (are_elems r (row_at image k)) (is_trimmed r (row_at image k)) (flat_at r image fi k)).1 (full k e) (ap (λ x. x.0) z);
     above = λ k t e l. same_element r _ _ (coeff_past r (row_at image k) t (omega (arith, l)));
-    places = λ j k lj lk ne e.
-        let a = inside j lj in
-        let b = inside k lk in
-        ne (some_same j k (sym (settled.all j (omega (arith, a)) (λ u. omega (arith, u, a)) (full j lj)) ∙ ap (λ p. slot_of slot p) e ∙ settled.all k (omega (arith, b)) (λ u. omega (arith, u, b)) (full k lk)));
+    places = λ j k lj lk ne. different_places r w n slot image whole settled j k (full j lj) (full k lk) ne;
   }

@@ -1,37 +1,24 @@
 -- A reduction as lists: the transform, its inverse and the image.
-use Rattle.std.proofs.Common.{◌≡◌, ◌≢◌, ℕ, ◌+◌, ◌*◌, ◌/◌, ◌%◌, ◌<◌, ◌≤◌, true, Option, List, [], ◌∷◌, length, nat_lt, refl, sym, ◌∙◌, ap, arith, ltb-true, ltb-false}
+use Rattle.std.proofs.Common.{◌≡◌, ◌≢◌, ℕ, ◌+◌, ◌*◌, ◌/◌, ◌%◌, ◌<◌, true, Option, List, [], ◌∷◌, length, refl, sym, ◌∙◌, ap, arith}
 use Rattle.std.proofs.Math.Nat.{mod-lt}
-use Rattle.ring_core.specs.Ring.{RingOps, IsElem, IsRing}
+use Rattle.ring_core.specs.Ring.{RingOps, IsRing}
 use Rattle.ring_core.specs.Field.{IsField}
 use Rattle.ring_core.specs.Coeffs.{coeff, list_of, first_values}
 use Rattle.ring_core.proofs.Carrier.{RingOn, Element, elements, same_element}
-use Rattle.ring_core.proofs.Coefficients.{coeff_past, coeff-list_of, canonical-list_of}
-use Rattle.ring_core.proofs.FirstValues.{length-first_values}
+use Rattle.ring_core.proofs.Coefficients.{coeff-list_of, canonical-list_of}
+use Rattle.ring_core.proofs.FirstValues.{length-first_values, at-first_values}
 use Rattle.linear_algebra.specs.Linear.{row_at, entry}
-use Rattle.linear_algebra.proofs.Sums.{combine, combine_same, by_bool}
-use Rattle.linear_algebra.proofs.Lift.{AllIn, rows_of, row_of}
-use Rattle.flat_modules.specs.Flat.{are_flat, unit_at, lead_at, times_rows, zero_rows, IsReduction, IsOfReduction}
-use Rattle.flat_modules.proofs.Lists.{flat_in, row_past}
+use Rattle.linear_algebra.proofs.Sums.{combine_same}
+use Rattle.linear_algebra.proofs.Lift.{AllIn, rows_of}
+use Rattle.flat_modules.specs.Flat.{are_flat, unit_at, lead_at, zero_rows, IsReduction, IsOfReduction}
+use Rattle.flat_modules.proofs.Lists.{flat_in, flat_first}
 use Rattle.flat_modules.proofs.Shift.{powers}
-use Rattle.flat_modules.proofs.Product.{combine_more}
 use Rattle.flat_modules.proofs.Matrix.{times_same}
 use Rattle.flat_modules.proofs.Columns.{across, column_added, unit_across}
 use Rattle.flat_reduce.specs.steps.Turns.{IsTurn, Turns, none, turn}
-use Rattle.flat_reduce.specs.steps.Settled.{slot_of, IsUnsettled}
-use Rattle.flat_reduce.proofs.Settling.{some_same}
-use Rattle.flat_reduce.proofs.Reduced.{HasTransform, added_in, added_is, after_turn, after_turns, start, unit_value}
-use Rattle.flat_reduce.proofs.KernelRows.{times_value, row_first, flat_first}
-
--- rows that are settled have different lead places
-pub different_places : {E : Type 0} (r : RingOps E) (w n : ℕ) (slot : List (Option ℕ)) (image : List (List E)) → length image ≡ n → IsUnsettled w n n slot image
-    → (i k : ℕ) → row_at image i ≢ [] → row_at image k ≢ [] → i ≢ k → lead_at image i % w ≢ lead_at image k % w
-different_places r w n slot image len settled i k ni nk ne e =
-    let a = inside i ni in
-    let b = inside k nk in
-    ne (some_same i k (sym (settled.all i (omega (arith, a)) (λ u. omega (arith, u, a)) ni) ∙ ap (slot_of slot) e ∙ settled.all k (omega (arith, b)) (λ u. omega (arith, u, b)) nk))
-  where
-    inside : (j : ℕ) → row_at image j ≢ [] → j < n
-    inside j nz = by_bool (nat_lt j n) (λ b. ltb-true j n b) (λ b. let l : n ≤ j = ltb-false j n b in absurd (nz (row_past r image j (omega (arith, l, len)))))
+use Rattle.flat_reduce.specs.steps.Settled.{IsUnsettled}
+use Rattle.flat_reduce.proofs.Reduced.{HasTransform, different_places, added_in, added_is, after_turn, after_turns, start, unit_value}
+use Rattle.flat_reduce.proofs.KernelRows.{times_bound}
 
 module _ {E : Type 0} (r : RingOps E) (inv : E → Option E) (field : IsField r inv) where
   abbrev ring : IsRing r
@@ -42,16 +29,6 @@ module _ {E : Type 0} (r : RingOps E) (inv : E → Option E) (field : IsField r 
 
   commutes : (x y : Element r) → S.mul x y ≡ S.mul y x
   commutes x y = same_element r _ _ (field.mul_comm x.0 y.0 x.1 y.1)
-
-  -- a row of coefficients times rows, over any bound on its length
-  row_times : (n w len : ℕ) (c : List E) (ci : (k : ℕ) → IsElem r (coeff r c k)) → ((k : ℕ) → len ≤ k → row_of r (coeff r c) ci k ≡ S.zero) → (rows : ℕ → ℕ → E) (ri : AllIn r rows) (t : ℕ)
-      → times_rows r n w c rows t ≡ (combine S len (row_of r (coeff r c) ci) (powers S n w (rows_of r rows ri)) t).0
-  row_times n w len c ci short rows ri t =
-      let room = len + length c in
-      sym (times_value r ring n w c ci rows ri t)
-      ∙ ap (λ a. a.0)
-      (sym (combine_more S (length c) room (row_of r (coeff r c) ci) (powers S n w (rows_of r rows ri)) t (omega arith) (λ k far. same_element r _ _ (coeff_past r c k far)))
-      ∙ combine_more S len room (row_of r (coeff r c) ci) (powers S n w (rows_of r rows ri)) t (omega arith) short)
 
   module _ (w : ℕ) (m : List (List E)) (mi : AllIn r (entry r m)) (pos : 0 < length m) where
     abbrev n : ℕ
@@ -112,13 +89,13 @@ module _ {E : Type 0} (r : RingOps E) (inv : E → Option E) (field : IsField r 
         left_flat = left_flat;
         back_flat = back_flat;
         image_flat = image_flat;
-        image_is = λ i t l. row_times n w s.len (row_at left i) (s.left_in i) (s.is.left_short i) (entry r m) mi t ∙ ap (λ a. a.0) (s.is.image_is i t l);
+        image_is = λ i t l. times_bound r ring n w s.len (row_at left i) (s.left_in i) (s.is.left_short i) (entry r m) mi t ∙ ap (λ a. a.0) (s.is.image_is i t l);
         left_back = λ i t l.
-            row_times n n s.len (row_at left i) (s.left_in i) (s.is.left_short i) (entry r back) bi t
+            times_bound r ring n n s.len (row_at left i) (s.left_in i) (s.is.left_short i) (entry r back) bi t
             ∙ ap (λ a. a.0) (times_same S n n s.len (rows_of r (entry r left) s.left_in i) (rows_of r (entry r back) bi) s.back t pos (λ j k lj. same j k lj) ∙ s.is.left_back i t l)
             ∙ sym (unit_value r ring i t);
         back_left = λ i t l.
-            row_times n n s.len (row_at back i) (bi i) (λ k far. same i k l ∙ s.is.back_short i k far) (entry r left) s.left_in t
+            times_bound r ring n n s.len (row_at back i) (bi i) (λ k far. same i k l ∙ s.is.back_short i k far) (entry r left) s.left_in t
             ∙ ap (λ a. a.0) (combine_same S s.len (rows_of r (entry r back) bi i) (s.back i) (powers S n n (rows_of r (entry r left) s.left_in)) t (λ k _. same i k l) ∙ s.is.back_left i t l)
             ∙ sym (unit_value r ring i t);
         places = places;
@@ -138,7 +115,7 @@ module _ {E : Type 0} (r : RingOps E) (inv : E → Option E) (field : IsField r 
           back = listed_back image left s;
           image = image;
           reduction = reduction_of image left (listed_back image left s) s fi fl (flat_first r n row (λ i. canonical-list_of r s.len _ (λ j _. (s.back i j).1))) il ll (length-first_values n row)
-              (λ i t l. ap (λ u. coeff r u t) (row_first n row i l)
+              (λ i t l. ap (λ u. coeff r u t) (at-first_values n row i [] l)
               ∙ coeff-list_of r ring.closed.zero_in ring.equal s.len _ (λ j. (s.back i j).1) (λ j far. ap (λ x. x.0) (s.is.back_short i j far)) t)
               places;
           picked = refl;
@@ -154,12 +131,9 @@ module _ {E : Type 0} (r : RingOps E) (inv : E → Option E) (field : IsField r 
         reduction_of image left back s.transform fi fl fb il ll bl (λ i t l. is i t l ∙ ap (λ a. a.0) (sym (s.is i t l))) (different_places r w n slot image il settled)
 
 module _ {E : Type 0} (r : RingOps E) (inv : E → Option E) (field : IsField r inv) where
-  -- the same, where there may be no rows
-  pub reduction_listed : (w : ℕ) (m : List (List E)) → are_flat r m ≡ true → (ids columns image left after back : List (List E)) (slot : List (Option ℕ)) → are_flat r ids ≡ true → are_flat r columns ≡ true → length ids ≡ length m
-      → ((i t : ℕ) → i < length m → entry r ids i t ≡ unit_at r i t) → ((i t : ℕ) → i < length m → entry r columns i t ≡ unit_at r i t) → are_flat r image ≡ true → are_flat r left ≡ true → length image ≡ length m → length left ≡ length m
-      → IsUnsettled w (length m) (length m) slot image → Turns r w (length m) m ids columns image left after → are_flat r back ≡ true → length back ≡ length m
-      → ((i t : ℕ) → i < length m → entry r back i t ≡ entry r after (t % length m) (t / length m * length m + i)) → IsReduction r w m left back image
-  reduction_listed w [] mf ids columns image left after back slot df cf dl unit_is unit_columns fi fl il ll settled turned fb bl is = record {
+  no_rows : (w : ℕ) (left back image : List (List E)) (slot : List (Option ℕ)) → length left ≡ 0 → length back ≡ 0 → length image ≡ 0 → are_flat r left ≡ true → are_flat r back ≡ true → are_flat r image ≡ true
+      → IsUnsettled w 0 0 slot image → IsReduction r w [] left back image
+  no_rows w left back image slot ll bl il fl fb fi settled = record {
     left_len = ll;
     back_len = bl;
     image_len = il;
@@ -171,6 +145,14 @@ module _ {E : Type 0} (r : RingOps E) (inv : E → Option E) (field : IsField r 
     back_left = λ i t l. absurd (omega arith);
     places = different_places r w 0 slot image il settled;
   }
+
+  -- the same, where there may be no rows
+  pub reduction_listed : (w : ℕ) (m : List (List E)) → are_flat r m ≡ true → (ids columns image left after back : List (List E)) (slot : List (Option ℕ)) → are_flat r ids ≡ true → are_flat r columns ≡ true → length ids ≡ length m
+      → ((i t : ℕ) → i < length m → entry r ids i t ≡ unit_at r i t) → ((i t : ℕ) → i < length m → entry r columns i t ≡ unit_at r i t) → are_flat r image ≡ true → are_flat r left ≡ true → length image ≡ length m → length left ≡ length m
+      → IsUnsettled w (length m) (length m) slot image → Turns r w (length m) m ids columns image left after → are_flat r back ≡ true → length back ≡ length m
+      → ((i t : ℕ) → i < length m → entry r back i t ≡ entry r after (t % length m) (t / length m * length m + i)) → IsReduction r w m left back image
+  reduction_listed w [] mf ids columns image left after back slot df cf dl unit_is unit_columns fi fl il ll settled turned fb bl is =
+      no_rows w left back image slot ll bl il fl fb fi settled
   reduction_listed w (x ∷ xs) mf ids columns image left after back slot df cf dl unit_is unit_columns fi fl il ll settled turned fb bl is =
       settled_reduction r inv field w (x ∷ xs) (flat_in r field.ring (x ∷ xs) mf) (omega arith) ids columns image left after back slot df cf dl unit_is unit_columns fi fl il ll settled turned fb bl is
 
@@ -178,24 +160,8 @@ module _ {E : Type 0} (r : RingOps E) (inv : E → Option E) (field : IsField r 
   pub picked_listed : (w : ℕ) (m : List (List E)) → are_flat r m ≡ true → (ids zeros image left columns : List (List E)) (slot : List (Option ℕ)) → are_flat r ids ≡ true → length ids ≡ length m
       → ((i t : ℕ) → i < length m → entry r ids i t ≡ unit_at r i t) → are_flat r image ≡ true → are_flat r left ≡ true → length image ≡ length m → length left ≡ length m
       → IsUnsettled w (length m) (length m) slot image → Turns r w (length m) m ids zeros image left columns → IsOfReduction r w m (zero_rows image left (length m))
-  picked_listed w [] mf ids zeros image left columns slot df dl unit_is fi fl il ll settled turned = record {
-    left = left;
-    back = [];
-    image = image;
-    reduction = record {
-      left_len = ll;
-      back_len = refl;
-      image_len = il;
-      left_flat = fl;
-      back_flat = refl;
-      image_flat = fi;
-      image_is = λ i t l. absurd (omega arith);
-      left_back = λ i t l. absurd (omega arith);
-      back_left = λ i t l. absurd (omega arith);
-      places = different_places r w 0 slot image il settled;
-    };
-    picked = refl;
-  }
+  picked_listed w [] mf ids zeros image left columns slot df dl unit_is fi fl il ll settled turned =
+      record { left = left; back = []; image = image; reduction = no_rows w left [] image slot ll refl il fl refl fi settled; picked = refl }
   picked_listed w (x ∷ xs) mf ids zeros image left columns slot df dl unit_is fi fl il ll settled turned =
       let mi = flat_in r field.ring (x ∷ xs) mf in
       let pos : 0 < length (x ∷ xs) = omega arith in

@@ -1,5 +1,5 @@
 -- Rows that grow, and rows among rows.
-use Rattle.std.proofs.Common.{◌≡◌, ◌≢◌, ℕ, zero, suc, ◌+◌, ◌-◌, ◌<◌, ◌≤◌, inl, inr, true, Option, None, Some, MatchOption, List, [], ◌∷◌, ◌++◌, length, set, cond, nat_lt, refl, sym, ◌∙◌, ap, ap₂, subst, arith, le-ltb, ltb-true, ltb-false, add-mul, ◌*◌, ◌/◌, ◌%◌}
+use Rattle.std.proofs.Common.{◌≡◌, ◌≢◌, ℕ, zero, suc, ◌+◌, ◌-◌, ◌<◌, ◌≤◌, inl, inr, true, Option, None, Some, MatchOption, List, [], ◌∷◌, length, set, cond, nat_lt, refl, sym, ◌∙◌, ap, ap₂, subst, arith, le-ltb, ltb-true, ltb-false, add-mul, ◌*◌, ◌/◌, ◌%◌}
 use Rattle.std.proofs.Math.Nat.{div-mul-le_self, mul-div_cancel}
 use Rattle.std.proofs.lemmas.Nat.{div-add-mod', le-div}
 use Rattle.std.proofs.lemmas.Bool.{and_parts, and_from}
@@ -16,12 +16,6 @@ use Rattle.linear_algebra.proofs.Sums.{by_bool, same_or_other}
 use Rattle.flat_modules.specs.Flat.{are_flat, shifted}
 
 module _ {E : Type 0} (r : RingOps E) where
-  pub coeff_push_zero : (u : List E) (t : ℕ) → coeff r (u ++ r.zero ∷ []) t ≡ coeff r u t
-  coeff_push_zero [] zero = refl
-  coeff_push_zero [] (suc t) = refl
-  coeff_push_zero (x ∷ xs) zero = refl
-  coeff_push_zero (x ∷ xs) (suc t) = coeff_push_zero xs t
-
   pub flat_set : (rows : List (List E)) (p : ℕ) (x : List E) → are_flat r rows ≡ true → is_canonical r x ≡ true → are_flat r (set rows p x) ≡ true
   flat_set [] p x e h = refl
   flat_set (y ∷ ys) zero x e h = and_from _ _ h (and_parts _ _ e).1

@@ -1,6 +1,7 @@
 -- Rows are settled: what one turn, and the end of them, does to the slots.
 use Rattle.std.proofs.Common.{◌≡◌, ◌≢◌, ℕ, zero, suc, ◌+◌, ◌-◌, ◌%◌, ◌<◌, ◌≤◌, inl, inr, true, Option, Some, None, List, [], ◌∷◌, length, set, refl, sym, ◌∙◌, ap, arith, length-set}
 use Rattle.std.proofs.lemmas.Bool.{and_parts}
+use Rattle.std.proofs.lemmas.List.{get_or-set_same, get_or-set_other}
 use Rattle.ring_core.specs.Ring.{RingOps, IsRing}
 use Rattle.ring_core.specs.Coeffs.{are_elems, is_trimmed}
 use Rattle.ring_core.proofs.Coefficients.{same_coeffs}
@@ -13,24 +14,13 @@ use Rattle.flat_reduce.specs.steps.Turns.{IsRowAdded, IsTurn, Turns, none, turn}
 use Rattle.flat_reduce.specs.steps.Settled.{total_len, IsNamed, IsUnsettled}
 
 pub set_here : (slot : List (Option ℕ)) (j : ℕ) (x : Option ℕ) → j < length slot → slot_of (set slot j x) j ≡ x
-set_here [] j x l = absurd (omega arith)
-set_here (y ∷ ys) zero x l = refl
-set_here (y ∷ ys) (suc j) x l = set_here ys j x (omega arith)
+set_here slot j x l = get_or-set_same slot j x None l
 
 pub set_apart : (slot : List (Option ℕ)) (j k : ℕ) (x : Option ℕ) → j ≢ k → slot_of (set slot j x) k ≡ slot_of slot k
-set_apart [] j k x ne = refl
-set_apart (y ∷ ys) zero zero x ne = absurd (ne refl)
-set_apart (y ∷ ys) zero (suc k) x ne = refl
-set_apart (y ∷ ys) (suc j) zero x ne = refl
-set_apart (y ∷ ys) (suc j) (suc k) x ne = set_apart ys j k x (λ e. ne (ap suc e))
-
-value_or : ℕ → Option ℕ → ℕ
-value_or d None = d
-value_or d (Some x) = x
+set_apart slot j k x ne = get_or-set_other slot j k x None (λ e. ne (sym e))
 
 pub some_same : (a b : ℕ) → Some a ≡ Some b → a ≡ b
-unfolding value_or
-some_same a b e = ap (value_or a) e
+some_same a b e = cc
 
 pub none_not_some : (a : ℕ) (o : Option ℕ) → o ≡ None → o ≡ Some a → ⊥
 none_not_some a o e f = cc

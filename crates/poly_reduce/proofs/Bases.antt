@@ -1,7 +1,8 @@
 -- From reductions and bases of flat rows to those of the rows of polynomials that stand for them.
-use Rattle.std.proofs.Common.{◌≡◌, ℕ, zero, suc, ◌+◌, ◌-◌, ◌*◌, ◌/◌, ◌%◌, ◌<◌, ◌≤◌, inl, inr, true, Option, List, [], ◌∷◌, length, cond, nat_eq, nat_lt, refl, sym, ◌∙◌, ap, subst, arith, ext_get_or, eq-eqb, ne_eqb, ltb-true, ltb-false}
-use Rattle.std.proofs.Math.Nat.{mod-lt, mul-le-mul_right}
-use Rattle.std.proofs.lemmas.Nat.{div-add-mod', div-mul-add, mod-mul-add}
+use Rattle.std.proofs.Common.{◌≡◌, ℕ, ◌+◌, ◌*◌, ◌/◌, ◌%◌, ◌<◌, ◌≤◌, inl, inr, true, false, Bool, Option, List, [], ◌∷◌, length, cond, nat_eq, nat_lt, refl, sym, ◌∙◌, ap, subst, arith, ext_get_or, eq-eqb, ne_eqb, ltb-true, ltb-false}
+use Rattle.std.proofs.Math.Nat.{mod-lt, mod-eq_of_lt, mul-le-mul_right}
+use Rattle.std.proofs.lemmas.Bool.{cond_both}
+use Rattle.std.proofs.lemmas.Nat.{div-add-mod'}
 use Rattle.ring_core.specs.Ring.{RingOps, IsRing}
 use Rattle.ring_core.specs.Field.{IsField}
 use Rattle.ring_core.specs.Coeffs.{coeff, are_elems, is_canonical, first_values}
@@ -12,10 +13,10 @@ use Rattle.linear_algebra.specs.Linear.{row_at, entry, is_row, are_rows}
 use Rattle.linear_algebra.proofs.RowLists.{row_len, row_elems, rows_at, rows_by_places}
 use Rattle.linear_algebra.proofs.Sums.{by_bool, same_or_other}
 use Rattle.fq_poly.specs.Poly.{poly_ops}
-use Rattle.flat_modules.specs.Flat.{unit_at, times_rows, IsReduction, IsBasis, IsRelationOf, IsOnlyCombination}
+use Rattle.flat_modules.specs.Flat.{lead_at, unit_at, times_rows, IsReduction, IsBasis, IsRelationOf, IsOnlyCombination}
 use Rattle.flat_modules.proofs.Lists.{flat_at}
-use Rattle.flat_reduce.proofs.KernelRows.{row_first}
 use Rattle.flat_reduce.proofs.RowSteps.{length_by_zeros}
+use Rattle.flat_reduce.proofs.Settling.{empty_row}
 use Rattle.poly_reduce.specs.Rows.{Rows}
 use Rattle.poly_reduce.specs.Matrices.{row_times, product, identity, zero_row, member, StandFor, IsLead, IsMatrix, IsRowReduction, IsRelationRow, IsOnlyProduct, IsRowBasis}
 use Rattle.poly_reduce.proofs.Stands.{row_from}
@@ -40,46 +41,33 @@ module _ {E : Type 0} (r : RingOps E) (inv : E → Option E) (field : IsField r 
       let within = sl.count in
       let by = row_at left i in
       let bi = row_elems p (length flat) by (rows_at p (length flat) left sl.shape i low) in
-      row_first (length left) row i low
+      at-first_values (length left) row i [] low
       ∙ sym (from_combination r ring w posw m flat s (row_at image i) by bi (rows_at p w image shape i (omega (arith, low, len)))
       (λ t. sym (is i t low) ∙ times_combination r ring w posw m flat s (row_at flat_left i) by (flat_at r flat_left sl.flat i) bi posn (λ k. stand_at r (length flat) left flat_left sl i k) t)))
 
   -- row `i` of the identity
   unit_member : (n i t : ℕ) → i < n → unit_at r i t ≡ member r n (first_values n (unit_at p i)) t
   unit_member n i t l =
-      let low = mod-lt t {m = n} (omega (arith, l)) in
       let whole = div-add-mod' t n in
-      let read : coeff r (row_at (first_values n (unit_at p i)) (t % n)) (t / n) ≡ coeff r (unit_at p i (t % n)) (t / n) = ap (λ u. coeff r u (t / n)) (at-first_values n (unit_at p i) (t % n) [] low) in
-      elim (same_or_other i (t % n)) [
-        | inl e ↦
-            at_place i t (t / n) (t % n) n e whole low
-            ∙ sym (read ∙ ap (λ b. coeff r (cond b (r.one ∷ []) []) (t / n)) (eq-eqb i (t % n) e))
-        | inr ne ↦
-            ap (λ b. cond b r.one r.zero) (ne_eqb i t (λ q.
-            let v = div-mul-add 0 n i l in
-            let u = mod-mul-add 0 n i l in
-            ne (sym u ∙ (let z : 0 * n + i ≡ t = omega (arith, q) in ap (λ a. a % n) z))))
-            ∙ sym (read ∙ ap (λ b. coeff r (cond b (r.one ∷ []) []) (t / n)) (ne_eqb i (t % n) ne))
-      ]
-    where
-      at_place : (i t k m n : ℕ) → i ≡ m → k * n + m ≡ t → m < n → cond (nat_eq i t) r.one r.zero ≡ coeff r (r.one ∷ []) k
-      at_place i t zero m n e whole l = ap (λ b. cond b r.one r.zero) (eq-eqb i t (omega (arith, e, whole)))
-      at_place i t (suc k) m n e whole l =
-          let some = mul-le-mul_right {m = 1} {n = suc k} n (omega arith) in
-          ap (λ b. cond b r.one r.zero) (ne_eqb i t (λ q. omega (arith, q, e, whole, some, l)))
+      let unit : (b : Bool) → nat_eq i t ≡ b → unit_at r i t ≡ cond b r.one r.zero = λ b e. ap (λ b. cond b r.one r.zero) e in
+      sym (ap (λ u. coeff r u (t / n)) (at-first_values n (unit_at p i) (t % n) [] (mod-lt t {m = n} (omega (arith, l))))
+      ∙ elim (same_or_other i (t % n)) [
+        | inl e ↦ ap (λ b. coeff r (cond b (r.one ∷ []) []) (t / n)) (eq-eqb i (t % n) e) ∙ elim (same_or_other (t / n) 0) [
+          | inl z ↦ ap (coeff r (r.one ∷ [])) z ∙ sym (unit true (eq-eqb i t (let v = ap (λ a. a * n) z in omega (arith, e, whole, v))))
+          | inr nz ↦
+              let some = mul-le-mul_right {m = 1} {n = t / n} n (omega (arith, nz)) in
+              coeff_past r (r.one ∷ []) (t / n) (omega (arith, nz)) ∙ sym (unit false (ne_eqb i t (λ q. omega (arith, q, l, some, whole))))
+        ]
+        | inr ne ↦ ap (λ b. coeff r (cond b (r.one ∷ []) []) (t / n)) (ne_eqb i (t % n) ne) ∙ sym (unit false (ne_eqb i t (λ q. ne (sym (mod-eq_of_lt l) ∙ ap (λ a. a % n) q))))
+      ])
 
   unit_canonical : (i j : ℕ) → is_canonical r (unit_at p i j) ≡ true
-  unit_canonical i j = by_bool (nat_eq i j)
-      (λ b. ap (λ v. is_canonical r (cond v (r.one ∷ []) [])) b ∙ one_canonical)
-      (λ b. ap (λ v. is_canonical r (cond v (r.one ∷ []) [])) b)
-    where
-      one_canonical : is_canonical r (r.one ∷ []) ≡ true
-      one_canonical = (poly_ring r ring field.one_ne_zero).closed.one_in
+  unit_canonical i j = cond_both (nat_eq i j) (r.one ∷ []) [] (λ u. is_canonical r u ≡ true) (λ _. (poly_ring r ring field.one_ne_zero).closed.one_in) (λ _. refl)
 
   unit_rows_in : (n k : ℕ) → are_rows p n (first_values k (λ i. first_values n (unit_at p i))) ≡ true
   unit_rows_in n k = rows_by_places p n _ (λ i l.
       let count = length-first_values k (λ i. first_values n (unit_at p i)) in
-      ap (is_row p n) (row_first k (λ i. first_values n (unit_at p i)) i (omega (arith, l, count)))
+      ap (is_row p n) (at-first_values k (λ i. first_values n (unit_at p i)) i [] (omega (arith, l, count)))
       ∙ row_from p n (first_values n (unit_at p i)) (length-first_values n (unit_at p i)) (elems-first_values p n (unit_at p i) (λ j _. unit_canonical i j)))
 
   -- the lead of a row is that of its flat row
@@ -105,9 +93,12 @@ module _ {E : Type 0} (r : RingOps E) (inv : E → Option E) (field : IsField r 
               h.only other (row_len p (length rows) other shape ∙ sym count) (polys_flat r other inside) (λ t. is t ∙ to_combination r ring k posk rows flats sr x other inside e t);
         }
 
-  module _ (w : ℕ) (posw : 0 < w) (m : Rows (List (List E))) (width : m.width ≡ w) (flat : List (List E)) (s : StandFor r w m.rows flat) (posn : 0 < length flat) where
+  module _ (m : Rows (List (List E))) (posw : 0 < m.width) (flat : List (List E)) (s : StandFor r m.width m.rows flat) (posn : 0 < length flat) where
     abbrev n : ℕ
     n = length flat
+
+    abbrev w : ℕ
+    w = m.width
 
     pub reduced_from : (left back image : Rows (List (List E))) (flat_left flat_back flat_image : List (List E)) → left.width ≡ n → back.width ≡ n → image.width ≡ w
         → StandFor r n left.rows flat_left → StandFor r n back.rows flat_back → StandFor r w image.rows flat_image → IsReduction r w flat flat_left flat_back flat_image → IsRowReduction r m left back image
@@ -124,7 +115,7 @@ module _ {E : Type 0} (r : RingOps E) (inv : E → Option E) (field : IsField r 
         let shape_image : IsMatrix p n w image = record { width = wi; count = sym li ∙ hi; shape = si.shape } in
         let units = unit_rows_in n n in
         let unit_count = length-first_values n (λ i. first_values n (unit_at p i)) in
-        let unit_row = λ (i : ℕ) (t : ℕ) (l : i < n). unit_member n i t l ∙ ap (λ u. member r n u t) (sym (row_first n (λ i. first_values n (unit_at p i)) i l)) in
+        let unit_row = λ (i : ℕ) (t : ℕ) (l : i < n). unit_member n i t l ∙ ap (λ u. member r n u t) (sym (at-first_values n (λ i. first_values n (unit_at p i)) i [] l)) in
         let products = product_same w posw m.rows flat s posn left.rows flat_left sl image.rows (omega (arith, ll, li, hl, hi)) si.shape (λ i t l.
         let low : i < n = omega (arith, l, ll, hl) in
         h.image_is i t low ∙ stand_at r w image.rows flat_image si i t) in
@@ -138,18 +129,16 @@ module _ {E : Type 0} (r : RingOps E) (inv : E → Option E) (field : IsField r 
         record {
           left_shape = subst (λ k. IsMatrix p k k left) many shape_left;
           back_shape = subst (λ k. IsMatrix p k k back) many shape_back;
-          image_shape = subst (λ k. IsMatrix p k m.width image) many (subst (λ k. IsMatrix p n k image) (sym width) shape_image);
-          image_is = ap (λ k. product p k left.rows m.rows) width ∙ products;
+          image_shape = subst (λ k. IsMatrix p k w image) many shape_image;
+          image_is = products;
           left_back = subst (λ k. product p k left.rows back.rows ≡ identity p k) many left_back;
           back_left = subst (λ k. product p k back.rows left.rows ≡ identity p k) many back_left;
           places = λ i k a b ne la lb e.
-              let ra = subst (λ v. IsLead r v (row_at image.rows i) a) width la in
-              let rb = subst (λ v. IsLead r v (row_at image.rows k) b) width lb in
-              let da = lead_is w a (row_at image.rows i) (row_at flat_image i) (flat_at r flat_image h.image_flat i) (stand_at r w image.rows flat_image si i) ra in
-              let db = lead_is w b (row_at image.rows k) (row_at flat_image k) (flat_at r flat_image h.image_flat k) (stand_at r w image.rows flat_image si k) rb in
-              h.places i k (λ z. let v = ap length z in omega (arith, v, da)) (λ z. let v = ap length z in omega (arith, v, db)) ne
-              (ap (λ v. (v - 1) % w) da ∙ (let x : a + 1 - 1 ≡ a = omega arith in ap (λ v. v % w) x) ∙ sym (ap (λ v. a % v) width) ∙ e ∙ ap (λ v. b % v) width
-              ∙ (let y : b ≡ b + 1 - 1 = omega arith in ap (λ v. v % w) y) ∙ sym (ap (λ v. (v - 1) % w) db));
+              let da = lead_is w a (row_at image.rows i) (row_at flat_image i) (flat_at r flat_image h.image_flat i) (stand_at r w image.rows flat_image si i) la in
+              let db = lead_is w b (row_at image.rows k) (row_at flat_image k) (flat_at r flat_image h.image_flat k) (stand_at r w image.rows flat_image si k) lb in
+              let fa : lead_at flat_image i ≡ a = omega (arith, da) in
+              let fb : lead_at flat_image k ≡ b = omega (arith, db) in
+              h.places i k (λ z. let v = ap length z in omega (arith, v, da)) (λ z. let v = ap length z in omega (arith, v, db)) ne (ap (λ v. v % w) fa ∙ e ∙ sym (ap (λ v. v % w) fb));
         }
 
     -- a row times the matrix is zero where its flat row is a relation
@@ -205,11 +194,7 @@ module _ {E : Type 0} (r : RingOps E) (inv : E → Option E) (field : IsField r 
         spans = λ x xr none. record {
           by = [];
           shape = ap (λ v. is_row p (length v) []) z;
-          is = no_members x (row_len p (length m) x xr ∙ many) ∙ sym (ap (λ k. row_times p k [] rows) many);
-          only = λ other shape _. no_members other (row_len p (length rows) other shape ∙ ap length z);
+          is = empty_row x (row_len p (length m) x xr ∙ many) ∙ sym (ap (λ k. row_times p k [] rows) many);
+          only = λ other shape _. empty_row other (row_len p (length rows) other shape ∙ ap length z);
         };
       }
-    where
-      no_members : {X : Type 0} (u : List X) → length u ≡ 0 → u ≡ []
-      no_members [] l = refl
-      no_members (y ∷ ys) l = absurd (omega arith)

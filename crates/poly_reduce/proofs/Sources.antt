@@ -1,5 +1,5 @@
 -- The rows of a kernel are those of some reduction's transform whose image is zero, in both views.
-use Rattle.std.proofs.Common.{◌≡◌, ℕ, zero, suc, ◌+◌, ◌*◌, ◌/◌, ◌%◌, ◌<◌, ◌≤◌, true, Option, List, [], ◌∷◌, ◌++◌, length, cond, nat_eq, refl, sym, ◌∙◌, ap, subst, arith, eq-eqb, eqb-true}
+use Rattle.std.proofs.Common.{◌≡◌, ℕ, zero, suc, ◌+◌, ◌*◌, ◌/◌, ◌%◌, ◌<◌, ◌≤◌, true, false, Bool, Option, List, [], ◌∷◌, ◌++◌, length, cond, nat_eq, refl, sym, ◌∙◌, ap, subst, arith, eq-eqb, eqb-true}
 use Rattle.std.proofs.lemmas.Bool.{and_parts, and_from}
 use mathlib.Core.Bool.{true≢false}
 use Rattle.ring_core.specs.Ring.{RingOps, IsRing}
@@ -12,6 +12,7 @@ use Rattle.linear_algebra.proofs.Sums.{by_bool}
 use Rattle.flat_modules.specs.Flat.{zero_rows, IsOfReduction}
 use Rattle.flat_modules.proofs.Lists.{flat_at}
 use Rattle.flat_reduce.proofs.RowSteps.{length_by_zeros}
+use Rattle.flat_reduce.proofs.Settling.{empty_row}
 use Rattle.poly_reduce.specs.Rows.{Rows}
 use Rattle.poly_reduce.specs.Matrices.{member, StandFor, IsOfRowReduction, all_empty, rows_at_zeros}
 use Rattle.poly_reduce.proofs.Views.{p, member_at, row_canonical, stand_at}
@@ -29,10 +30,6 @@ module _ {E : Type 0} where
   empty_at ((z ∷ zs) ∷ ys) e zero = absurd (let v = eqb-true (length (z ∷ zs)) 0 (and_parts _ _ e).0 in omega (arith, v))
   empty_at (y ∷ ys) e (suc j) = empty_at ys (and_parts _ _ e).1 j
 
-  no_members : (u : List E) → length u ≡ 0 → u ≡ []
-  no_members [] l = refl
-  no_members (y ∷ ys) l = absurd (omega arith)
-
 module _ {E : Type 0} (r : RingOps E) (inv : E → Option E) (field : IsField r inv) where
   abbrev ring : IsRing r
   ring = field.ring
@@ -41,7 +38,7 @@ module _ {E : Type 0} (r : RingOps E) (inv : E → Option E) (field : IsField r 
   zero_same : (w : ℕ) (x : List (List E)) (u : List E) → is_row (p r) w x ≡ true → is_canonical r u ≡ true → ((t : ℕ) → coeff r u t ≡ member r w x t) → all_empty x ≡ nat_eq (length u) 0
   zero_same w x u xr ue is = by_bool (nat_eq (length u) 0)
       (λ b.
-      let none = no_members u (eqb-true (length u) 0 b) in
+      let none = empty_row u (eqb-true (length u) 0 b) in
       let len = row_len (p r) w x xr in
       empty_in x (λ j l.
       let low : j < w = omega (arith, l, len) in
@@ -61,16 +58,19 @@ module _ {E : Type 0} (r : RingOps E) (inv : E → Option E) (field : IsField r 
       let before = zeros_stand n w posn left image flat_left flat_image sl si same k (omega (arith, l)) in
       let low : k < length left = omega (arith, l) in
       let is_zero = zero_same w (row_at image k) (row_at flat_image k) (rows_at (p r) w image si.shape k (omega (arith, low, same))) (flat_at r flat_image si.flat k) (stand_at r w image flat_image si k) in
-      subst (λ b. StandFor r n (cond b (rows_at_zeros image left k ++ row_at left k ∷ []) (rows_at_zeros image left k)) (zero_rows flat_image flat_left (suc k))) (sym is_zero)
-      (by_bool (nat_eq (length (row_at flat_image k)) 0)
-      (λ b. subst (λ b. StandFor r n (cond b (rows_at_zeros image left k ++ row_at left k ∷ []) (rows_at_zeros image left k)) (cond b (zero_rows flat_image flat_left k ++ row_at flat_left k ∷ []) (zero_rows flat_image flat_left k))) (sym b)
-      (stand_push r ring n posn _ _ (row_at left k) (row_at flat_left k) before (rows_at (p r) n left sl.shape k low) (flat_at r flat_left sl.flat k) (stand_at r n left flat_left sl k)))
-      (λ b. subst (λ b. StandFor r n (cond b (rows_at_zeros image left k ++ row_at left k ∷ []) (rows_at_zeros image left k)) (cond b (zero_rows flat_image flat_left k ++ row_at flat_left k ∷ []) (zero_rows flat_image flat_left k))) (sym b)
-      before))
+      let A = rows_at_zeros image left k in
+      let B = zero_rows flat_image flat_left k in
+      let more = stand_push r ring n posn A B (row_at left k) (row_at flat_left k) before (rows_at (p r) n left sl.shape k low) (flat_at r flat_left sl.flat k) (stand_at r n left flat_left sl k) in
+      subst (λ b. StandFor r n (cond b (A ++ row_at left k ∷ []) A) (zero_rows flat_image flat_left (suc k))) (sym is_zero) (picked A (A ++ row_at left k ∷ []) B (B ++ row_at flat_left k ∷ []) before more (nat_eq (length (row_at flat_image k)) 0))
+    where
+      picked : (a c : List (List (List E))) (b d : List (List E)) → StandFor r n a b → StandFor r n c d → (v : Bool) → StandFor r n (cond v c a) (cond v d b)
+      picked a c b d low high true = high
+      picked a c b d low high false = low
 
-  pub source_from : (w : ℕ) → 0 < w → (m : Rows (List (List E))) → m.width ≡ w → (flat : List (List E)) → StandFor r w m.rows flat → 0 < length flat
-      → (rows : List (List (List E))) (flats : List (List E)) → StandFor r (length flat) rows flats → IsOfReduction r w flat flats → IsOfRowReduction r m rows
-  source_from w posw m width flat s posn rows flats sr h =
+  pub source_from : (m : Rows (List (List E))) → 0 < m.width → (flat : List (List E)) → StandFor r m.width m.rows flat → 0 < length flat
+      → (rows : List (List (List E))) (flats : List (List E)) → StandFor r (length flat) rows flats → IsOfReduction r m.width flat flats → IsOfRowReduction r m rows
+  source_from m posw flat s posn rows flats sr h =
+      let w = m.width in
       let n = length flat in
       let red = h.reduction in
       let left = rows_exist r ring n posn h.left red.left_flat in
@@ -85,7 +85,7 @@ module _ {E : Type 0} (r : RingOps E) (inv : E → Option E) (field : IsField r 
         left = record { width = n; rows = left.0 };
         back = record { width = n; rows = back.0 };
         image = record { width = w; rows = image.0 };
-        reduction = reduced_from r inv field w posw m width flat s posn _ _ _ h.left h.back h.image refl refl refl left.1 back.1 image.1 red;
+        reduction = reduced_from r inv field m posw flat s posn _ _ _ h.left h.back h.image refl refl refl left.1 back.1 image.1 red;
         picked = stand_same r ring n posn rows _ flats sr (subst (StandFor r n (rows_at_zeros image.0 left.0 n)) (sym h.picked) zeros) ∙ ap (rows_at_zeros image.0 left.0) s.count;
       }
 

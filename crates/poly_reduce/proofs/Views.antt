@@ -15,11 +15,10 @@ use Rattle.linear_algebra.proofs.Sums.{combine_same, by_bool}
 use Rattle.linear_algebra.proofs.Lift.{rows_of, row_of}
 use Rattle.fq_poly.specs.Poly.{poly_ops}
 use Rattle.flat_modules.specs.Flat.{are_flat, times, combination, times_rows}
-use Rattle.flat_modules.proofs.Lists.{flat_at, flat_in, row_past, longest, listed, bound, combination_value}
-use Rattle.flat_modules.proofs.Product.{combine_more}
+use Rattle.flat_modules.proofs.Lists.{flat_at, flat_in, row_past, longest, listed, listed_past, bound, combination_value}
 use Rattle.flat_modules.proofs.Shift.{powers}
 use Rattle.flat_modules.proofs.Entries.{combined_entry, combined_canonical}
-use Rattle.flat_reduce.proofs.KernelRows.{times_value}
+use Rattle.flat_reduce.proofs.KernelRows.{times_bound}
 use Rattle.poly_reduce.specs.Matrices.{row_times, member, StandFor}
 
 module _ {E : Type 0} (r : RingOps E) where
@@ -58,12 +57,7 @@ module _ {E : Type 0} (r : RingOps E) where
       (λ b.
       let l : length rows ≤ i = ltb-false i (length rows) b in
       let count = s.count in
-      ap (λ u. coeff r u t) (row_past r flats i (omega (arith, l, count))) ∙ sym (ap (λ u. coeff r (row_at u (t % w)) (t / w)) (no_row rows i l)))
-    where
-      no_row : (rows : List (List (List E))) (i : ℕ) → length rows ≤ i → row_at rows i ≡ []
-      no_row [] i l = refl
-      no_row (x ∷ xs) zero l = absurd (omega arith)
-      no_row (x ∷ xs) (suc i) l = no_row xs i (omega arith)
+      ap (λ u. coeff r u t) (row_past r flats i (omega (arith, l, count))) ∙ sym (ap (λ u. coeff r (row_at u (t % w)) (t / w)) (row_past p rows i l)))
 
 module _ {E : Type 0} (r : RingOps E) (h : IsRing r) where
   abbrev S : RingOn (Element r)
@@ -111,15 +105,9 @@ module _ {E : Type 0} (r : RingOps E) (h : IsRing r) where
         let fi = flat_in r h flats s.flat in
         let family = powers S n w (rows_of r (entry r flats) fi) in
         let few = bound r h w flats by s.flat bf * n in
-        let room = length c + few in
         let same : (k : ℕ) → listed r h w flats by s.flat bf k ≡ row k = λ k. same_element r _ _ (sym (is k)) in
-        sym (times_value r h n w c ci (entry r flats) fi t)
-        ∙ ap (λ a. a.0)
-        (sym (combine_more S (length c) room row family t (omega arith) (λ k far. same_element r _ _ (coeff_past r c k far)))
-        ∙ combine_more S few room row family t (omega arith) (λ k far. sym (same k) ∙ same_element r _ _ (coeff_past r (row_at by (k % n)) (k / n)
-        (let v = (longest r by).1 (k % n) in let d = le-div (bound r h w flats by s.flat bf) k n pos far in omega (arith, v, d))))
-        ∙ sym (combine_same S few _ row family t (λ k _. same k)))
-        ∙ combination_value r h w flats by s.flat bf t
+        times_bound r h n w few c ci (λ k far. sym (same k) ∙ listed_past r h w flats by s.flat bf pos k far) (entry r flats) fi t
+        ∙ ap (λ a. a.0) (sym (combine_same S few _ row family t (λ k _. same k))) ∙ combination_value r h w flats by s.flat bf t
 
   -- each row of polynomials stands for a flat row
   pub flat_exists : (w : ℕ) → 0 < w → (x : List (List E)) → are_elems (p r) x ≡ true → (u : List E) × (is_canonical r u ≡ true) × ((t : ℕ) → coeff r u t ≡ member r w x t)

@@ -14,10 +14,9 @@ use Rattle.linear_algebra.proofs.RowLists.{rows_by_places}
 use Rattle.linear_algebra.proofs.Sums.{by_bool, same_or_other}
 use Rattle.linear_algebra.proofs.Echelon.{find_place}
 use Rattle.flat_modules.specs.Flat.{are_flat, lead_at, unit_at, zero_rows, IsBasis, IsInModule, IsRelationOf, IsStandardBasis}
-use Rattle.flat_modules.proofs.Lists.{flat_at, flat_in, row_past, longest}
+use Rattle.flat_modules.proofs.Lists.{flat_at, flat_in, flat_first, row_past, longest}
 use Rattle.flat_reduce.specs.steps.Settled.{slot_of, IsUnsettled}
 use Rattle.flat_reduce.proofs.KernelBasis.{kernel_basis}
-use Rattle.flat_reduce.proofs.KernelRows.{flat_first}
 use Rattle.flat_reduce.proofs.Pushed.{free_len, not_free, flat_push}
 use Rattle.flat_reduce.proofs.RowSteps.{inverse_of}
 use Rattle.flat_reduce.proofs.Settling.{some_same, set_here, set_apart}

@@ -1,18 +1,13 @@
 use Rattle.std.proofs.Common.{◌≡◌, length, sym, ap, subst, ◌∙◌, arith}
 use Rattle.flat_modules.specs.Flat.{zero_rows, IsBasis, IsRelationOf, IsOfReduction}
-use Rattle.flat_reduce.specs.steps.Settled.{slot_of}
 use Rattle.flat_reduce.specs.steps.Turns.{Turns}
 use Rattle.flat_reduce.proofs.KernelBasis.{kernel_basis}
 use Rattle.flat_reduce.proofs.Reduction.{picked_listed}
-use Rattle.flat_reduce.proofs.Pushed.{free_len, not_free}
+use Rattle.flat_reduce.proofs.Pushed.{unsettled_start}
 use Rattle.flat_reduce.proofs.kernel.settled_kernel.Goals as goal
 
 pub settle_all-requires-clause-unsettled : goal.settle_all-requires-clause-unsettled
-settle_all-requires-clause-unsettled g c = record {
-  len = ap length c.requires.free ∙ free_len c.args.w;
-  names = λ j q e. absurd (not_free c.args.w j q (ap (λ s. slot_of s j) (sym c.requires.free) ∙ e));
-  all = λ k l ne nz. absurd (ne (omega (arith, l)));
-}
+settle_all-requires-clause-unsettled g c = unsettled_start c.args.w c.args.slot.now c.args.image.now c.requires.free
 
 pub returns-clause-basis : goal.returns-clause-basis
 returns-clause-basis g c =

@@ -1,8 +1,7 @@
-use Rattle.std.proofs.Common.{◌≡◌, ◌+◌, suc, None, [], ◌∷◌, ◌++◌, replicate, ap, ◌∙◌, arith}
-use Rattle.flat_reduce.proofs.Pushed.{free_more}
+use Rattle.std.proofs.Common.{None, [], ◌∷◌, ◌++◌, ap, ◌∙◌}
+use Rattle.std.proofs.lemmas.List.{replicate-append-replicate}
 use Rattle.flat_reduce.proofs.lists.free_slots.Goals as goal
 
 pub loop-i-preserved : goal.loop-i-preserved
 loop-i-preserved c =
-    let one_more : suc c.loop-i.i ≡ c.loop-i.i + 1 = omega arith in
-    c.in_ok-push.ensures.items ∙ ap (λ u. u ++ None ∷ []) c.loop-i.invariant ∙ free_more c.loop-i.i ∙ ap (λ n. replicate n None) one_more
+    c.in_ok-push.ensures.items ∙ ap (λ u. u ++ None ∷ []) c.loop-i.invariant ∙ replicate-append-replicate c.loop-i.i 1 None

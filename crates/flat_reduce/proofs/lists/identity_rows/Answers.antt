@@ -1,10 +1,7 @@
-use Rattle.std.proofs.Common.{◌≡◌, ◌<◌, inl, inr, [], ◌∷◌, ◌++◌, length, sym, ap, ◌∙◌, arith}
-use Rattle.std.proofs.lemmas.List.{length_push}
+use Rattle.std.proofs.Common.{◌≡◌, [], ◌∷◌, ◌++◌, ap, ◌∙◌}
 use Rattle.ring_core.specs.Coeffs.{coeff, is_canonical}
-use Rattle.linear_algebra.specs.Linear.{row_at}
-use Rattle.linear_algebra.proofs.Sums.{same_or_other}
 use Rattle.flat_modules.specs.Flat.{are_flat, unit_at}
-use Rattle.flat_reduce.proofs.Pushed.{push_low, push_last, flat_push}
+use Rattle.flat_reduce.proofs.Pushed.{push_each, push_len, flat_push}
 use Rattle.flat_reduce.proofs.lists.identity_rows.Goals as goal
 
 pub loop-i-preserved : goal.loop-i-preserved
@@ -14,18 +11,8 @@ loop-i-preserved g c =
     let rows = c.loop-i.rows.items in
     let x = c.from_vec.result in
     let pushed : c.push.new.self.items ≡ rows ++ x ∷ [] = c.in_ok-push.ensures.items in
-    let count = ap length pushed in
-    let one_more = length_push rows x in
-    let same = c.from_vec.ensures in
     record {
-      len = omega (arith, count, one_more, before.len);
-      flat = ap (are_flat r) pushed ∙ flat_push r rows x before.flat (ap (is_canonical r) same ∙ c.in_ok-unit_row.ensures.flat);
-      unit = λ i t l. elim (same_or_other i c.loop-i.i) [
-        | inl e ↦
-            ap (λ u. coeff r u t) (ap (λ v. row_at v i) pushed ∙ push_last rows x i (before.len ∙ sym e) ∙ same)
-            ∙ c.in_ok-unit_row.ensures.unit t ∙ ap (λ j. unit_at r j t) (sym e)
-        | inr ne ↦
-            let low : i < length rows = omega (arith, l, ne, before.len) in
-            ap (λ u. coeff r u t) (ap (λ v. row_at v i) pushed ∙ push_low rows x i low) ∙ before.unit i t (omega (arith, low, before.len))
-      ];
+      len = push_len rows _ x c.loop-i.i pushed before.len;
+      flat = ap (are_flat r) pushed ∙ flat_push r rows x before.flat (ap (is_canonical r) c.from_vec.ensures ∙ c.in_ok-unit_row.ensures.flat);
+      unit = λ i t l. push_each (λ i u. coeff r u t ≡ unit_at r i t) rows _ x c.loop-i.i pushed before.len (λ i b. before.unit i t b) (ap (λ u. coeff r u t) c.from_vec.ensures ∙ c.in_ok-unit_row.ensures.unit t) i l;
     }

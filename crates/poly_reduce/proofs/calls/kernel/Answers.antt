@@ -1,4 +1,4 @@
-use Rattle.std.proofs.Common.{◌≡◌, length, refl, subst, arith}
+use Rattle.std.proofs.Common.{◌≡◌, length, subst, arith}
 use Rattle.fq_poly.specs.Poly.{poly_ops}
 use Rattle.flat_modules.specs.Flat.{IsBasis, IsRelationOf, IsOfReduction}
 use Rattle.flat_reduce.proofs.Settling.{empty_row}
@@ -27,7 +27,7 @@ returns-clause-basis g c =
     let rows = subst (λ k. StandFor r k c.in_ok-unflatten.field-0.rows found.rows) wide c.in_ok-unflatten.ensures.rows in
     let basis = subst (λ w. IsBasis r (length flat.rows) (IsRelationOf r w flat.rows) found.rows) width c.in_ok-rows.ensures.basis in
     subst (λ k. IsRowBasis p k (IsRelationRow p m.width m.rows) c.in_ok-unflatten.field-0.rows) many
-    (kernel_from r (g.F.Field.inv_of f) (g.met.F.Field.laws f) m.width (omega (arith, c.requires.width)) m refl flat.rows stands (omega (arith, many)) c.in_ok-unflatten.field-0.rows found.rows rows basis)
+    (kernel_from r (g.F.Field.inv_of f) (g.met.F.Field.laws f) m (omega (arith, c.requires.width)) flat.rows stands (omega (arith, many)) c.in_ok-unflatten.field-0.rows found.rows rows basis)
 
 pub returns-then-len-eq0-clause-source : goal.returns-then-len-eq0-clause-source
 returns-then-len-eq0-clause-source g c =
@@ -44,6 +44,6 @@ returns-clause-source g c =
     let many : length flat.rows ≡ length m.rows = stands.count in
     let found = c.in_ok-rows.rows in
     let wide : found.width ≡ length flat.rows = omega (arith, c.in_ok-rows.ensures.width, many) in
-    source_from r (g.F.Field.inv_of f) (g.met.F.Field.laws f) m.width (omega (arith, c.requires.width)) m refl flat.rows stands (omega (arith, many)) c.in_ok-unflatten.field-0.rows found.rows
+    source_from r (g.F.Field.inv_of f) (g.met.F.Field.laws f) m (omega (arith, c.requires.width)) flat.rows stands (omega (arith, many)) c.in_ok-unflatten.field-0.rows found.rows
     (subst (λ k. StandFor r k c.in_ok-unflatten.field-0.rows found.rows) wide c.in_ok-unflatten.ensures.rows)
     (subst (λ w. IsOfReduction r w flat.rows found.rows) c.in_ok-flat.ensures.width c.in_ok-rows.ensures.source)

@@ -1,4 +1,4 @@
-use Rattle.std.proofs.Common.{◌≡◌, length, max, refl, subst, ◌∙◌, arith}
+use Rattle.std.proofs.Common.{◌≡◌, length, max, subst, ◌∙◌, arith}
 use Rattle.flat_modules.specs.Flat.{IsReduction}
 use Rattle.poly_reduce.specs.Rows.{IsFlatReduction}
 use Rattle.poly_reduce.specs.Matrices.{StandFor}
@@ -26,7 +26,7 @@ returns g c =
     let wl : a.width ≡ length flat.rows = omega (arith, lw, many) in
     let wb : b.width ≡ length flat.rows = omega (arith, bw, many) in
     let wi = found.image_width ∙ width in
-    reduced_from r (g.F.Field.inv_of f) (g.met.F.Field.laws f) m.width (omega (arith, c.requires.width)) m refl flat.rows stands (omega (arith, many)) left back image a.rows b.rows u.rows
+    reduced_from r (g.F.Field.inv_of f) (g.met.F.Field.laws f) m (omega (arith, c.requires.width)) flat.rows stands (omega (arith, many)) left back image a.rows b.rows u.rows
     (c.in_ok-unflatten.ensures.width ∙ wl) (c.in_ok-unflatten-2.ensures.width ∙ wb)
     (c.in_ok-unflatten-3.ensures.width ∙ wi)
     (subst (λ k. StandFor r k left.rows a.rows) wl c.in_ok-unflatten.ensures.rows)

@@ -1,11 +1,8 @@
-use Rattle.std.proofs.Common.{◌≡◌, ◌+◌, ◌*◌, ◌<◌, inl, inr, [], ◌∷◌, ◌++◌, length, sym, ap, ◌∙◌, arith}
-use Rattle.std.proofs.lemmas.List.{length_push}
+use Rattle.std.proofs.Common.{◌≡◌, ◌+◌, ◌*◌, [], ◌∷◌, ◌++◌}
 use Rattle.ring_core.specs.Coeffs.{coeff}
 use Rattle.ring_core.proofs.Coefficients.{elems_more}
-use Rattle.linear_algebra.specs.Linear.{row_at}
-use Rattle.linear_algebra.proofs.Sums.{same_or_other}
 use Rattle.fq_poly.specs.Poly.{poly_ops}
-use Rattle.flat_reduce.proofs.Pushed.{push_low, push_last}
+use Rattle.flat_reduce.proofs.Pushed.{push_each, push_len}
 use Rattle.poly_reduce.proofs.convert.unflatten_row.Goals as goal
 
 pub loop-j-preserved : goal.loop-j-preserved
@@ -15,17 +12,8 @@ loop-j-preserved g c =
     let entries = c.loop-j.entries.items in
     let x = c.in_ok-entry_of.field-0 in
     let pushed : c.push.new.self.items ≡ entries ++ x ∷ [] = c.in_ok-push.ensures.items in
-    let count = ap length pushed in
-    let one_more = length_push entries x in
     record {
-      count = omega (arith, count, one_more, before.count);
+      count = push_len entries _ x c.loop-j.j pushed before.count;
       polys = elems_more (poly_ops r) entries _ x pushed before.polys c.in_ok-entry_of.ensures.elem;
-      is = λ j e l. elim (same_or_other j c.loop-j.j) [
-        | inl here ↦
-            ap (λ u. coeff r u e) (ap (λ v. row_at v j) pushed ∙ push_last entries x j (before.count ∙ sym here))
-            ∙ c.in_ok-entry_of.ensures.is e ∙ ap (λ i. coeff r c.args.flat.now (e * c.args.w + i)) (sym here)
-        | inr ne ↦
-            let low : j < length entries = omega (arith, l, ne, before.count) in
-            ap (λ u. coeff r u e) (ap (λ v. row_at v j) pushed ∙ push_low entries x j low) ∙ before.is j e (omega (arith, low, before.count))
-      ];
+      is = λ j e l. push_each (λ j u. coeff r u e ≡ coeff r c.args.flat.now (e * c.args.w + j)) entries _ x c.loop-j.j pushed before.count (λ j b. before.is j e b) (c.in_ok-entry_of.ensures.is e) j l;
     }

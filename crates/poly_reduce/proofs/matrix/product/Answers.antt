@@ -1,10 +1,9 @@
-use Rattle.std.proofs.Common.{ℕ, length, ap, ap₂, sym, ◌∙◌, arith}
+use Rattle.std.proofs.Common.{ℕ, [], length, ap, ap₂, sym, ◌∙◌, arith}
 use Rattle.ring_core.specs.Coeffs.{coeff}
-use Rattle.ring_core.proofs.FirstValues.{length-first_values}
+use Rattle.ring_core.proofs.FirstValues.{length-first_values, at-first_values}
 use Rattle.linear_algebra.specs.Combines.{combined}
 use Rattle.linear_algebra.specs.Linear.{row_at, entry}
 use Rattle.fq_poly.specs.Poly.{poly_ops}
-use Rattle.flat_reduce.proofs.KernelRows.{row_first}
 use Rattle.poly_reduce.specs.Matrices.{row_times, product}
 use Rattle.poly_reduce.proofs.matrix.product.Goals as goal
 
@@ -18,7 +17,7 @@ from_vec-requires g c =
     let row = λ (i : ℕ). row_times p w (row_at a i) b in
     let count = ap length is ∙ length-first_values (length a) row in
     λ i l.
-    ap (λ u. length (row_at u i)) is ∙ ap length (row_first (length a) row i (omega (arith, l, count)))
+    ap (λ u. length (row_at u i)) is ∙ ap length (at-first_values (length a) row i [] (omega (arith, l, count)))
     ∙ length-first_values w (combined p (length b) (coeff p (row_at a i)) (entry p b)) ∙ c.width.ensures ∙ sym c.width-2.ensures
 
 pub returns-clause-rows : goal.returns-clause-rows
