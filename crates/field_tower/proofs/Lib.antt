@@ -28,6 +28,7 @@ pub mod PairValues
 pub mod ConstantValues
 pub mod CodePairs
 pub mod RowValues
+pub mod ShuffleValues
 pub mod LaneValues
 pub mod PlainSums
 pub mod ModularForms

@@ -11,3 +11,4 @@ pub mod Logs
 pub mod Kinds
 pub mod Parts
 pub mod Lanes
+pub mod Shuffles

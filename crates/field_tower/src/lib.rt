@@ -25,6 +25,7 @@ mod residue_ring;
 mod residues;
 mod row_products;
 mod row_sums;
+mod shuffles;
 mod size;
 mod tables;
 mod tower;

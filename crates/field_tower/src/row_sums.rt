@@ -11,9 +11,13 @@ ghost use Rattle.field_tower.specs.steps.Tables.{IsTable};
 use super::base::BaseField;
 use super::logs::ProductKind;
 use super::remainders::{added_product, fraction_of};
+use super::shuffles::add_blocks;
 use super::tables::SumKind;
 use residue_field::Code;
 use ring_core::Field;
+
+/// From this length on a row is worth the two tables of sixteen products that its factor needs.
+const LONG: usize = 64;
 
 /// Adds `row` to `out`, from the place `i` on, by the exclusive or.
 fn add_binary(out: &mut [Code], i: usize, row: &[Code])
@@ -65,6 +69,53 @@ fn add_logged(
     }
 }
 
+/// The same over at most 256 codes: sixteen at a time, and those that are left by logarithms.
+fn add_shuffled(
+    field: &BaseField,
+    powers: &[Code],
+    logs: &[u32],
+    out: &mut [Code],
+    i: usize,
+    c: Code,
+    row: &[Code],
+)
+    requires prime { field.now.p ≡ 2 }
+    requires codes { size_of field.now ≤ 256 }
+    requires tables { IsLogTable (size_of field.now) (ops_of field.now).mul powers.now logs.now }
+    requires room { i + length row.now ≤ length out.old }
+    requires factor { IsElem (ops_of field.now) c }
+    requires row { are_elems (ops_of field.now) row.now ≡ true }
+    ensures { IsWritten 0 i (length row.now) (λ k. bit_xor (slice_index_or out.old (i + k) 0) ((ops_of field.now).mul c (slice_index_or row.now k 0))) out.old out.new }
+{
+    let whole = row.len() / 16 * 16;
+    add_blocks(field, out, i, c, row);
+    add_logged(field, powers, logs, out, i + whole, c, &row[whole..]);
+}
+
+/// The same over any number of codes, in the way that is fast for the length of the row.
+fn add_products(
+    field: &BaseField,
+    powers: &[Code],
+    logs: &[u32],
+    out: &mut [Code],
+    i: usize,
+    c: Code,
+    row: &[Code],
+)
+    requires prime { field.now.p ≡ 2 }
+    requires tables { IsLogTable (size_of field.now) (ops_of field.now).mul powers.now logs.now }
+    requires room { i + length row.now ≤ length out.old }
+    requires factor { IsElem (ops_of field.now) c }
+    requires row { are_elems (ops_of field.now) row.now ≡ true }
+    ensures { IsWritten 0 i (length row.now) (λ k. bit_xor (slice_index_or out.old (i + k) 0) ((ops_of field.now).mul c (slice_index_or row.now k 0))) out.old out.new }
+{
+    if field.q() <= 256 && row.len() >= LONG {
+        add_shuffled(field, powers, logs, out, i, c, row);
+    } else {
+        add_logged(field, powers, logs, out, i, c, row);
+    }
+}
+
 /// Adds `c` times `row` to `out`, from the place `i` on, in characteristic two.
 fn add_scaled_binary(field: &BaseField, out: &mut [Code], i: usize, c: Code, row: &[Code])
     requires prime { field.now.p ≡ 2 }
@@ -79,7 +130,7 @@ fn add_scaled_binary(field: &BaseField, out: &mut [Code], i: usize, c: Code, row
     if c == 1 {
         add_binary(out, i, row);
     } else if let ProductKind::Logged = products.kind {
-        add_logged(field, &products.powers, &products.logs, out, i, c, row);
+        add_products(field, &products.powers, &products.logs, out, i, c, row);
     } else {
         add_each(field, out, i, c, row);
     }

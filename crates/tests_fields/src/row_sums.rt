@@ -11,12 +11,12 @@ use std::process::Abort;
 use std::test::Fail;
 use tests_support::fields::{base_data, make_base};
 
-/// How many members the rows have that are added: none, one, and about as many as the 16 lanes of a vector, or twice as
-/// many.
-const LENGTHS: [usize; 8] = [0, 1, 15, 16, 17, 32, 33, MOST];
+/// How many members the rows have that are added: none, one, about as many as the 16 lanes of a vector, or twice as
+/// many, and about as many as are worth tables of their factor.
+const LENGTHS: [usize; 12] = [0, 1, 15, 16, 17, 32, 33, 63, 64, 79, 80, MOST];
 
 /// How many members the longest of them has.
-const MOST: usize = 40;
+const MOST: usize = 82;
 
 /// The place of the other row from which on they are added.
 const PLACE: usize = 3;

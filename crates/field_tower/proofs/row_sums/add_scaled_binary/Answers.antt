@@ -8,5 +8,5 @@ returns-then-c-eq1 c =
 
 pub returns-in-Logged : goal.returns-in-Logged
 returns-in-Logged c =
-    logged_written c.args.field.now c.requires.prime c.args.i c.args.c c.args.row.now c.args.out.now c.add_logged.new.out c.requires.factor c.requires.row c.requires.out
-    c.add_logged.ensures
+    logged_written c.args.field.now c.requires.prime c.args.i c.args.c c.args.row.now c.args.out.now c.add_products.new.out c.requires.factor c.requires.row c.requires.out
+    c.add_products.ensures
