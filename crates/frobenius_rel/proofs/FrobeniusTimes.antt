@@ -2,21 +2,19 @@
 -- of the coordinates of tau^n, .., tau^(n + r - 1).
 use Rattle.std.proofs.Common.{◌≡◌, ℕ, zero, suc, ◌+◌, ◌-◌, ◌<◌, ◌≤◌, inl, inr, Option, true, List, [], ◌∷◌, ◌++◌, length, refl, sym, ◌∙◌, ap, ap₂, arith, subst, ext_get_or, eq-eqb}
 use mathlib.Core.Path.{fun_ext}
-use Rattle.std.proofs.lemmas.Bool.{and_parts, and_from, cases_lt, cases_eq}
+use Rattle.std.proofs.lemmas.Bool.{and_from, cases_lt, cases_eq}
 use Rattle.std.proofs.lemmas.List.{get_or_append_left, get_or-append_right}
-use Rattle.ring_core.specs.Ring.{RingOps, IsElem}
+use Rattle.ring_core.specs.Ring.{RingOps}
 use Rattle.ring_core.specs.Field.{IsField, FrobOps, IsFrobField}
-use Rattle.ring_core.specs.Coeffs.{coeff, are_elems}
-use Rattle.ring_core.specs.Twisted.{twisted_ops, list_mul, product_at}
-use Rattle.ring_core.specs.Monomial.{monomial, constant, tau_power}
+use Rattle.ring_core.specs.Coeffs.{coeff}
+use Rattle.ring_core.specs.Twisted.{twisted_ops, list_mul}
+use Rattle.ring_core.specs.Monomial.{tau_power}
 use Rattle.ring_core.proofs.Carrier.{RingOn, Element, same_element, mul_zero}
 use Rattle.ring_core.proofs.Coefficients.{elem_read}
 use Rattle.ring_core.proofs.FirstValues.{length-first_values, at-first_values}
 use Rattle.ring_core.proofs.Series.{total}
-use Rattle.ring_core.proofs.Twist.{frob_twist}
 use Rattle.ring_core.proofs.ListRing.{poly_ring}
-use Rattle.ring_core.proofs.Monomial.{monomial_in, monomial_product, product_monomial, product_monomial_below, coeff-monomial_same, coeff-monomial_other, same_products}
-use Rattle.ring_core.proofs.Central.{tau_degree_central}
+use Rattle.ring_core.proofs.Monomial.{monomial_in}
 use Rattle.linear_algebra.specs.Combines.{combined}
 use Rattle.linear_algebra.specs.Linear.{row_at, entry, is_row, are_rows}
 use Rattle.linear_algebra.proofs.RowLists.{rows_in}
@@ -28,9 +26,9 @@ use Rattle.euclid_theory.proofs.Sizes.{HasSizes}
 use Rattle.relation_theory.proofs.PolyEuclid.{scalars, polys, coeffs, coeffs_past, coeffs_add, coeffs_mul, poly_same}
 use Rattle.motive_coords.specs.Motive.{IsMotive}
 use Rattle.motive_coords.proofs.Digits.{expanded_powers, digits_in, digits_expanded}
-use Rattle.motive_coords.proofs.Ores.{twisted, parts, parts_past, parts_add, single, scale_parts, scale_length, twisted_same, digit}
+use Rattle.motive_coords.proofs.Ores.{twisted, parts, parts_past, parts_add, single, scale_parts, scale_length, single_parts, below_parts, twisted_same, digit}
 use Rattle.motive_coords.proofs.Readings.{moved_up, shifts_product, at_past, at_total, at_left, at_power}
-use Rattle.motive_coords.proofs.MotiveValue.{total_swap, gathered, gathered_is, gathered_part, gathered_past}
+use Rattle.motive_coords.proofs.MotiveValue.{total_swap, single_same, single_other, gathered, gathered_is, gathered_part, gathered_past}
 use Rattle.motive_coords.proofs.MotiveLaws.{motive_coeffs, motive_exists}
 use Rattle.poly_reduce.specs.Matrices.{row_times}
 use Rattle.frobenius_rel.proofs.ListBases.{combined_is}
@@ -72,53 +70,41 @@ module _ {E B : Type 0} (r : RingOps E) (inv : E → Option E) (base : RingOps B
   pub tau_is : (m : ℕ) → list_mul r f.frob (tau_power r m) (r.one ∷ []) ≡ tau_power r m
   tau_is m = ap (λ (t : Element (twisted_ops r f.frob)). t.0) (S.mul_one (tau m))
 
-  elems_of : (c : Element r) (m : ℕ) → are_elems r (monomial r c.0 m) ≡ true
-  elems_of c m = (and_parts _ _ (monomial_in r k.ring c.0 m c.1)).0
-
-  -- the coefficients of c tau^i tau^n and of c tau^(n + i)
-  term_coeff : (c : Element r) (i n j : ℕ) → product_at r f.frob (monomial r c.0 i) (tau_power r n) j ≡ product_at r f.frob (constant r c.0) (tau_power r (n + i)) j
-  term_coeff c i n j =
-      let ring = k.ring in
-      let one = ring.closed.one_in in
-      let twist = frob_twist r inv base f k l in
-      let read : (m e : ℕ) → IsElem r (coeff r (tau_power r m) e) = λ m. elem_read r (tau_power r m) ring.closed.zero_in (elems_of (r.one, one) m) in
-      let place : j - 0 ≡ j = omega arith in
-      let right : product_at r f.frob (constant r c.0) (tau_power r (n + i)) j ≡ r.mul c.0 (coeff r (tau_power r (n + i)) j) =
-      monomial_product r ring f.frob twist c.0 0 (tau_power r (n + i)) c.1 (elems_of (r.one, one) (n + i)) j (omega arith)
-      ∙ ap (r.mul c.0) (l.frob_zero _ (read (n + i) (j - 0)) ∙ ap (coeff r (tau_power r (n + i))) place) in
-      left ∙ sym right
+  -- the coefficients of tau^n (c tau^i), for the degree n of the field
+  times_coeff : (c : Element r) (i j : ℕ) → part (S.mul (tau f.degree) (single r inv base f k l c i)) j ≡ part (S.mul (single r inv base f k l c 0) (tau (f.degree + i))) j
+  times_coeff c i j =
+      left ∙ sym (scale_parts r inv base f k l c (tau (f.degree + i)) j)
     where
-      zero_times : r.mul c.0 r.zero ≡ r.zero
-      zero_times = ap (λ (t : Element r). t.0) (mul_zero K c)
+      n : ℕ
+      n = f.degree
 
-      left : product_at r f.frob (monomial r c.0 i) (tau_power r n) j ≡ r.mul c.0 (coeff r (tau_power r (n + i)) j)
+      one : Element r
+      one = K.one
+
+      term : Element (twisted_ops r f.frob)
+      term = single r inv base f k l c i
+
+      left : part (S.mul (tau n) term) j ≡ K.mul c (part (tau (n + i)) j)
       left = elim (cases_lt j n) [
         | inl low ↦
-            product_monomial_below r k.ring f.frob (frob_twist r inv base f k l) (monomial r c.0 i) r.one n k.ring.closed.one_in (elems_of c i) j low
-            ∙ sym (ap (r.mul c.0) (coeff-monomial_other r k.ring r.one (n + i) j k.ring.closed.one_in (λ e. omega (arith, e, low))) ∙ zero_times)
+            below_parts r inv base f k l one n term j low
+            ∙ sym (ap (K.mul c) (single_other r inv base f k l one (n + i) j (λ e. omega (arith, e, low))) ∙ mul_zero K c)
         | inr high ↦
-            product_monomial r k.ring f.frob (frob_twist r inv base f k l) (monomial r c.0 i) r.one n k.ring.closed.one_in (elems_of c i) j high
-            ∙ ap (r.mul (coeff r (monomial r c.0 i) (j - n))) ((frob_twist r inv base f k l).twist_one (j - n))
-            ∙ k.ring.mul_one _ (elem_read r (monomial r c.0 i) k.ring.closed.zero_in (elems_of c i) (j - n))
+            single_parts r inv base f k l one n term j high ∙ K.one_mul _ ∙ same_element r _ _ (l.frob_degree _ (part term (j - n)).1)
             ∙ (elim (cases_eq j (n + i)) [
               | inl e ↦
                   let here : j - n ≡ i = omega (arith, e) in
-                  ap (coeff r (monomial r c.0 i)) here ∙ coeff-monomial_same r k.ring c.0 i c.1
-                  ∙ sym (ap (λ t. r.mul c.0 (coeff r (tau_power r (n + i)) t)) e ∙ ap (r.mul c.0) (coeff-monomial_same r k.ring r.one (n + i) k.ring.closed.one_in) ∙ k.ring.mul_one c.0 c.1)
+                  ap (part term) here ∙ single_same r inv base f k l c i
+                  ∙ sym (ap (λ t. K.mul c (part (tau (n + i)) t)) e ∙ ap (K.mul c) (single_same r inv base f k l one (n + i)) ∙ K.mul_one c)
               | inr ne ↦
-                  coeff-monomial_other r k.ring c.0 i (j - n) c.1 (λ e. ne (omega (arith, e, high)))
-                  ∙ sym (ap (r.mul c.0) (coeff-monomial_other r k.ring r.one (n + i) j k.ring.closed.one_in ne) ∙ zero_times)
+                  single_other r inv base f k l c i (j - n) (λ e. ne (omega (arith, e, high)))
+                  ∙ sym (ap (K.mul c) (single_other r inv base f k l one (n + i) j ne) ∙ mul_zero K c)
             ])
       ]
 
-  -- tau^n (c tau^i) = c tau^(n + i) for the degree n of the field
+  -- tau^n (c tau^i) = c tau^(n + i)
   times_term : (c : Element r) (i : ℕ) → S.mul (tau f.degree) (single r inv base f k l c i) ≡ S.mul (single r inv base f k l c 0) (tau (f.degree + i))
-  times_term c i =
-      let n = f.degree in
-      same_element (twisted_ops r f.frob) _ _
-      (tau_degree_central r inv base f k l (monomial r c.0 i) (elems_of c i)
-      ∙ same_products r k.ring f.frob (frob_twist r inv base f k l) (monomial r c.0 i) (tau_power r n) (constant r c.0) (tau_power r (n + i))
-      (elems_of c i) (elems_of (r.one, k.ring.closed.one_in) n) (elems_of c 0) (elems_of (r.one, k.ring.closed.one_in) (n + i)) (term_coeff c i n))
+  times_term c i = twisted_same r inv base f k l _ _ (times_coeff c i)
 
   -- a twisted polynomial of at most `d` coefficients is the sum of its terms
   spread : (d : ℕ) (v : Element (twisted_ops r f.frob)) → length v.0 ≤ d → v ≡ total S d (λ i. single r inv base f k l (part v i) i)
@@ -191,18 +177,16 @@ module _ {E B : Type 0} (r : RingOps E) (inv : E → Option E) (base : RingOps B
     module _ (u : Element (twisted_ops r f.frob)) (x : List (List E)) (s : IsMotive r f.frob b.0 u.0 x) (images : List (List (List E)))
         (rows : length images ≡ d) (shape : are_rows (twisted_ops r (λ c i. c)) d images ≡ true) (each : (i : ℕ) → i < d → IsMotive r f.frob b.0 (tau_power r (f.degree + i)) (row_at images i)) where
       -- Member `i` of the coordinates, and of row `i` at `q`, as polynomials.
-      member : ℕ → Element (twisted_ops r (λ c i. c))
+      abbrev member : ℕ → Element (twisted_ops r (λ c i. c))
       member i = (coeff p x i, elem_read p x refl s.elems i)
 
       member_coeffs : (i j : ℕ) → coeffs r inv k (member i) j ≡ at u i j
-      unfolding member
       member_coeffs i j = motive_coeffs r inv base f k l b d degree pos u x s i j
 
-      image : ℕ → ℕ → Element (twisted_ops r (λ c i. c))
+      abbrev image : ℕ → ℕ → Element (twisted_ops r (λ c i. c))
       image i q = (entry p images i q, rows_in p refl d images shape i q)
 
       image_coeffs : (i q e : ℕ) → i < d → coeffs r inv k (image i q) e ≡ at (tau (f.degree + i)) q e
-      unfolding image
       image_coeffs i q e m =
           same_element r _ _ refl ∙ motive_coeffs r inv base f k l b d degree pos (tau (f.degree + i)) (row_at images i) (each i m) q e
 
@@ -214,18 +198,16 @@ module _ {E B : Type 0} (r : RingOps E) (inv : E → Option E) (base : RingOps B
           ∙ ap₂ (λ v w. cauchy_product K v w e) (fun_ext (member_coeffs i)) (fun_ext (λ c. image_coeffs i q c m)))
           ∙ sym (times_at u q e)
 
-      list : List (List E)
+      abbrev list : List (List E)
       list = row_times p d x images
 
       list_at : (q : ℕ) → q < d → coeff p list q ≡ (combine P d member image q).0
-      unfolding list member image
       list_at q m =
           at-first_values d (combined p (length images) (coeff p x) (entry p images)) q [] m
           ∙ ap (λ n. combined p n (coeff p x) (entry p images) q) rows
           ∙ combined_is p (poly_ring r k.ring k.one_ne_zero) images image d (λ i _ j. refl) x member (λ i _. refl) q
 
       same_list : (y : List (List E)) → IsMotive r f.frob b.0 (S.mul (tau f.degree) u).0 y → y ≡ list
-      unfolding list
       same_list y o =
           let count : length y ≡ d = (let e = o.count in omega (arith, e, degree)) in
           ext_get_or [] y (row_times p d x images) (count ∙ sym (length-first_values d (combined p (length images) (coeff p x) (entry p images)))) (λ q m.
@@ -235,7 +217,6 @@ module _ {E B : Type 0} (r : RingOps E) (inv : E → Option E) (base : RingOps B
 
       -- The product with the matrix has the motive coordinates of tau^n u.
       pub times_motive : IsMotive r f.frob b.0 (list_mul r f.frob (tau_power r f.degree) u.0) (row_times (twisted_ops r (λ c i. c)) d x images)
-      unfolding list
       times_motive =
           let found = motive_exists r inv base f k l b d degree pos (S.mul (tau f.degree) u) in
           subst (IsMotive r f.frob b.0 (S.mul (tau f.degree) u).0) (same_list found.0 found.1) found.1

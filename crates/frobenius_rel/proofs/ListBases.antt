@@ -2,7 +2,7 @@
 use Rattle.std.proofs.Common.{◌≡◌, ℕ, ◌<◌, ◌≤◌, inl, inr, true, List, length, refl, sym, ◌∙◌, ap, arith, subst, eq-eqb}
 use mathlib.Core.Path.{fun_ext}
 use Rattle.std.proofs.lemmas.Bool.{and_from, cases_lt}
-use Rattle.ring_core.specs.Ring.{RingOps, IsElem, IsRing}
+use Rattle.ring_core.specs.Ring.{RingOps, IsRing}
 use Rattle.ring_core.specs.Coeffs.{coeff, first_values}
 use Rattle.ring_core.proofs.Carrier.{RingOn, Element, same_element, elements, mul_zero, zero_mul}
 use Rattle.ring_core.proofs.Coefficients.{coeff_past, elem_read, elems-first_values}
@@ -18,26 +18,19 @@ use Rattle.relation_theory.proofs.Bases.{IsBasisOfRelations}
 
 module _ {E : Type 0} (p : RingOps E) (h : IsRing p) where
   -- The first values of a function, as a list.
-  pub values : ℕ → (ℕ → Element p) → List E
+  abbrev pub values : ℕ → (ℕ → Element p) → List E
   values n c = first_values n (λ i. (c i).0)
 
   pub values_shape : (n : ℕ) (c : ℕ → Element p) → is_row p n (values n c) ≡ true
-  unfolding values
   values_shape n c =
       and_from _ _ (eq-eqb _ n (length-first_values n (λ i. (c i).0))) (elems-first_values p n _ (λ i l. (c i).1))
 
   pub values_at : (n : ℕ) (c : ℕ → Element p) (i : ℕ) → i < n → coeff p (values n c) i ≡ (c i).0
-  unfolding values
   values_at n c i l = at-first_values n (λ i. (c i).0) i p.zero l
 
   -- the members of a list of n elements
-  pub members : (n : ℕ) (c : List E) → is_row p n c ≡ true → ℕ → Element p
+  abbrev pub members : (n : ℕ) (c : List E) → is_row p n c ≡ true → ℕ → Element p
   members n c s i = (coeff p c i, elem_read p c h.closed.zero_in (row_elems p n c s) i)
-
-  pub members_past : (n : ℕ) (c : List E) (s : is_row p n c ≡ true) (i : ℕ) → n ≤ i → members n c s i ≡ (elements h).zero
-  unfolding members
-  members_past n c s i l =
-      same_element p _ _ (coeff_past p c i (let e = row_len p n c s in omega (arith, e, l)))
 
   -- the sum of the multiples of rows that are given both ways
   pub combined_is : (rows : List (List E)) (v : ℕ → ℕ → Element p) (n : ℕ) → ((i : ℕ) → i < n → (j : ℕ) → entry p rows i j ≡ (v i j).0)
@@ -72,31 +65,22 @@ module _ {E : Type 0} (p : RingOps E) (h : IsRing p) where
     relation_row c d coeffs z =
         ap (first_values w) (fun_ext (λ j. combined_is rows v n same c d coeffs j ∙ ap (λ (t : Element p). t.0) (z j)))
 
-    basis_in : (i k : ℕ) → IsElem p (entry p basis i k)
-    basis_in = rows_in p h.closed.zero_in n basis s.shape
-
     -- The members of the basis.
-    pub basis_rows : ℕ → ℕ → Element p
-    basis_rows i j = (entry p basis i j, basis_in i j)
-
-    pub basis_entry : (i j : ℕ) → (basis_rows i j).0 ≡ entry p basis i j
-    unfolding basis_rows
-    basis_entry i j = refl
+    abbrev pub basis_rows : ℕ → ℕ → Element p
+    basis_rows i j = (entry p basis i j, rows_in p h.closed.zero_in n basis s.shape i j)
 
     basis_past : (i j : ℕ) → i < length basis → n ≤ j → basis_rows i j ≡ R.zero
-    unfolding basis_rows
     basis_past i j l m =
         same_element p _ _ (coeff_past p (row_at basis i) j (let e = row_len p n (row_at basis i) (rows_at p n basis s.shape i l) in omega (arith, e, m)))
 
     -- a row that is a product with the basis is a combination of it
     combines : (x by : List E) (c : ℕ → Element p) → ((j : ℕ) → j < n → coeff p x j ≡ (c j).0) → ((j : ℕ) → n ≤ j → c j ≡ R.zero) → (shape : is_row p (length basis) by ≡ true) → x ≡ row_times p n by basis
         → (j : ℕ) → c j ≡ combine R (length basis) (members (length basis) by shape) basis_rows j
-    unfolding members
     combines x by c at past shape is j = elim (cases_lt j n) [
       | inl l ↦
           same_element p _ _
           (sym (at j l) ∙ ap (λ t. coeff p t j) is ∙ at-first_values n (combined p (length basis) (coeff p by) (entry p basis)) j p.zero l
-          ∙ combined_is basis basis_rows (length basis) (λ i m k. sym (basis_entry i k)) by (members (length basis) by shape) (λ i m. refl) j)
+          ∙ combined_is basis basis_rows (length basis) (λ i m k. refl) by (members (length basis) by shape) (λ i m. refl) j)
       | inr m ↦ past j m ∙ sym (total_zero R (length basis) _ (λ i l. ap (R.mul (members (length basis) by shape i)) (basis_past i j l m) ∙ mul_zero R _))
     ]
 
@@ -104,7 +88,7 @@ module _ {E : Type 0} (p : RingOps E) (h : IsRing p) where
     zero_product_row : (c : ℕ → Element p) → ((j : ℕ) → combine R (length basis) c basis_rows j ≡ R.zero) → zero_row p n ≡ row_times p n (values (length basis) c) basis
     zero_product_row c z =
         sym (ap (first_values n) (fun_ext (λ j.
-        combined_is basis basis_rows (length basis) (λ i m k. sym (basis_entry i k)) (values (length basis) c) c (values_at (length basis) c) j ∙ ap (λ (t : Element p). t.0) (z j))))
+        combined_is basis basis_rows (length basis) (λ i m k. refl) (values (length basis) c) c (values_at (length basis) c) j ∙ ap (λ (t : Element p). t.0) (z j))))
 
     only_zero : (c : ℕ → Element p) → ((j : ℕ) → combine R (length basis) c basis_rows j ≡ R.zero) → values (length basis) c ≡ values (length basis) (λ i. R.zero)
     only_zero c z =
@@ -119,7 +103,6 @@ module _ {E : Type 0} (p : RingOps E) (h : IsRing p) where
         values_is_row n = and_from _ _ (eq-eqb _ n (length-first_values n (λ j. p.zero))) (elems-first_values p n (λ j. p.zero) (λ i l. h.closed.zero_in))
 
     pub is_basis : IsBasisOfRelations (elements h) v (length rows) (length basis) basis_rows
-    unfolding basis_rows members
     is_basis = record {
       relations = λ i l. record {
         past = λ j m. basis_past i j l m;

@@ -82,11 +82,10 @@ module _ {E B : Type 0} (r : RingOps E) (inv : E → Option E) (base : RingOps B
       row_len p (d * f.degree) v (over_t_row (power_of (twisted_ops r f.frob) (frobenius r f) n) v (search_row n list u v s e))
 
   -- power `n` of Frobenius
-  raised : ℕ → Element (twisted_ops r f.frob)
+  abbrev raised : ℕ → Element (twisted_ops r f.frob)
   raised n = power (twisted r inv base f k l) (frob_of r inv base binv f k kb l b d degree pos) n
 
   raised_is : (n : ℕ) → (raised n).0 ≡ power_of (twisted_ops r f.frob) (frobenius r f) n
-  unfolding raised
   raised_is n = power_is r inv base f k l (frob_of r inv base binv f k kb l b d degree pos) n
 
   module _ (n : ℕ) (list : List (List (List B))) (u : List (List E)) (v : List (List B)) (s : IsSearch n list u) (row : v ≡ base_parts r base f u) where
@@ -94,7 +93,6 @@ module _ {E B : Type 0} (r : RingOps E) (inv : E → Option E) (base : RingOps B
     over = search_row n list u v s row
 
     rows_more : ArePowerRows r inv base binv f k kb l b d degree pos (suc n) (list ++ v ∷ [])
-    unfolding raised
     rows_more = record {
       count = length-append list (v ∷ []) ∙ (let e = s.rows_are.count in omega (arith, e));
       is = λ i m j. elim (cases_eq i n) [

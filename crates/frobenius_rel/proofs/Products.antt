@@ -1,9 +1,9 @@
 -- Polynomials in X over the polynomials in T: their products, and the power that has the degree of the rank.
-use Rattle.std.proofs.Common.{◌≡◌, ℕ, zero, suc, ◌+◌, ◌-◌, ◌*◌, ◌<◌, ◌≤◌, ◌⊎◌, inl, inr, Option, true, false, not, List, [], ◌∷◌, length, refl, sym, ◌∙◌, ap, arith, ext_get_or}
+use Rattle.std.proofs.Common.{◌≡◌, ℕ, zero, suc, ◌+◌, ◌*◌, ◌<◌, ◌≤◌, ◌⊎◌, inl, inr, Option, true, List, [], length, refl, sym, ◌∙◌, ap, arith, ext_get_or}
 use Rattle.std.proofs.lemmas.Bool.{and_parts, and_from}
 use Rattle.ring_core.specs.Ring.{RingOps, IsRing}
 use Rattle.ring_core.specs.Field.{IsField, FrobOps}
-use Rattle.ring_core.specs.Coeffs.{coeff, are_elems, is_canonical, is_trimmed, first_values}
+use Rattle.ring_core.specs.Coeffs.{coeff, are_elems, is_canonical, first_values}
 use Rattle.ring_core.specs.Twisted.{twisted_ops, list_mul, product_at}
 use Rattle.ring_core.proofs.Carrier.{Element, zero_mul, mul_zero}
 use Rattle.ring_core.proofs.Coefficients.{coeff_past, elem_read}
@@ -12,21 +12,14 @@ use Rattle.ring_core.proofs.Twist.{no_twist}
 use Rattle.ring_core.proofs.ListRing.{poly_ring, mul_in, coeff-mul}
 use Rattle.ring_core.proofs.Degrees.{HasNoDivisors, not_empty, degrees_add, poly_no_divisors}
 use Rattle.twist_theory.proofs.Cancel.{product_nonzero}
+use Rattle.minimal_poly.proofs.MinPoly.{trimmed_by_top}
 use Rattle.relation_theory.proofs.PolyEuclid.{polys}
 use Rattle.frobenius_rel.specs.Relation.{IsLeastRelation}
-
--- no zero stands at the top where the last member isn't zero
-trimmed_by_last : {X : Type 0} (p : RingOps X) (u : List X) → 0 < length u → p.same (coeff p u (length u - 1)) p.zero ≡ false → is_trimmed p u ≡ true
-trimmed_by_last p [] l e = absurd (omega arith)
-trimmed_by_last p (x ∷ []) l e = ap not e
-trimmed_by_last p (x ∷ y ∷ ys) l e =
-    let place : length (x ∷ y ∷ ys) - 1 ≡ suc (length (y ∷ ys) - 1) = omega arith in
-    trimmed_by_last p (y ∷ ys) (omega arith) (sym (ap (λ n. p.same (coeff p (x ∷ y ∷ ys) n) p.zero) place) ∙ e)
 
 -- a least relation is a polynomial in X
 pub relation_canonical : {E B : Type 0} (r : RingOps E) (base : RingOps B) (f : FrobOps E B) (phi : List E) (a : List (List B)) → IsLeastRelation r base f phi a → is_canonical (twisted_ops base (λ c i. c)) a ≡ true
 relation_canonical r base f phi a s =
-    and_from _ _ s.elems (trimmed_by_last (twisted_ops base (λ c i. c)) a (let l = s.long in omega (arith, l)) (ap (λ x. (twisted_ops base (λ c i. c)).same x []) s.monic))
+    and_from _ _ s.elems (trimmed_by_top (twisted_ops base (λ c i. c)) a (let l = s.long in omega (arith, l)) (ap (λ x. (twisted_ops base (λ c i. c)).same x []) s.monic))
 
 module _ {E : Type 0} (r : RingOps E) (inv : E → Option E) (k : IsField r inv) where
   abbrev p : RingOps (List E)

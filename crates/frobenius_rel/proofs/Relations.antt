@@ -18,7 +18,7 @@ use Rattle.relation_theory.proofs.PolyEuclid.{polys, poly_euclidean}
 use Rattle.relation_theory.proofs.Euclid.{domain, unit_size}
 use Rattle.relation_theory.proofs.Least.{IsLeast, least_is_monic}
 use Rattle.relation_theory.proofs.Bases.{IsBasisOfRelations, least_of_basis}
-use Rattle.frobenius_rel.proofs.ListBases.{basis_rows, basis_entry, is_basis_for}
+use Rattle.frobenius_rel.proofs.ListBases.{basis_rows, is_basis_for}
 use Rattle.finite_ring.proofs.Powers.{power}
 use Rattle.relation_theory.proofs.PowerRelations.{power_sum, IsCoordinates, power_rows, power_rows_is, power_rows_past, moves, value_zero, least_long, least_none}
 use Rattle.frobenius_rel.specs.steps.FirstRelation.{IsFirstRelation}
@@ -69,66 +69,63 @@ module _ {E B : Type 0} (r : RingOps E) (inv : E → Option E) (base : RingOps B
       too_many A (domain A (λ t. length t.0) (poly_euclidean base binv kb)) (d * f.degree) (power_rows S A acts x (d * f.degree) rows are_coordinates)
       (power_rows_past S A acts x (d * f.degree) rows are_coordinates)
 
+  abbrev p : RingOps (List B)
+  p = twisted_ops base (λ c i. c)
+
+  abbrev ring : IsRing (twisted_ops base (λ c i. c))
+  ring = poly_ring base kb.ring kb.one_ne_zero
+
+  abbrev v : ℕ → ℕ → Element (twisted_ops base (λ c i. c))
+  v = power_rows S A acts x (d * f.degree) rows are_coordinates
+
+  -- a list of the members of a least relation of the coordinates
+  module _ (n : ℕ) (g : ℕ → Element (twisted_ops base (λ c i. c))) (least : IsLeast A (power_rows S A acts x (d * f.degree) rows are_coordinates) n g)
+      (a : List (List B)) (shape : is_row (twisted_ops base (λ c i. c)) (suc n) a ≡ true) (at : (i : ℕ) → i < suc n → (g i).0 ≡ coeff (twisted_ops base (λ c i. c)) a i) where
+    len : length a ≡ suc n
+    len = row_len p (suc n) a shape
+
+    pub top_unit : (u : Element (twisted_ops base (λ c i. c))) × (A.mul (g n) u ≡ A.one)
+    top_unit =
+        least_is_monic A (λ t. length t.0) (poly_euclidean base binv kb) v (moves S A acts x (d * f.degree) rows are_coordinates) n g least
+        (d * f.degree) (power_rows_past S A acts x (d * f.degree) rows are_coordinates)
+
+    pub first_is : IsFirstRelation r base f b.0 a
+    first_is = record {
+      elems = row_elems p (suc n) a shape;
+      long = omega (arith, len, least_long S A acts x (d * f.degree) rows are_coordinates (λ t. length t.0) (poly_euclidean base binv kb) n g least);
+      top =
+          let place : length a - 1 ≡ n = omega (arith, len) in
+          ap (λ i. length (coeff p a i)) place ∙ ap length (sym (at n (omega arith))) ∙ unit_size A (λ t. length t.0) (poly_euclidean base binv kb) (g n) top_unit.0 top_unit.1;
+      is =
+          sym (value_is r inv base binv f k kb l b d degree pos a g (λ i m. at i (omega (arith, m, len))))
+          ∙ ap (λ t. (power_sum S acts x t g).0) len
+          ∙ ap (λ t. t.0) (value_zero S A acts x (d * f.degree) rows are_coordinates (suc n) g least.relation.is);
+      least = λ c ci short zero i.
+          ap (λ t. t.0) (least_none S A acts x (d * f.degree) rows are_coordinates (λ t. length t.0) (poly_euclidean base binv kb) n g least (length c)
+          (λ j. (coeff p c j, elem_read p c refl ci j)) (omega (arith, short, len)) (λ j m. same_element p _ _ (coeff_past p c j m))
+          (same_element (twisted_ops r f.frob) _ _ (value_is r inv base binv f k kb l b d degree pos c (λ j. (coeff p c j, elem_read p c refl ci j)) (λ j m. refl) ∙ zero)) i);
+    }
+
   module _ (n : ℕ) (none : HasNone n) (more basis : List (List (List B))) (rows_are : ArePowerRows (suc n) more)
       (inside : are_rows (twisted_ops base (λ c i. c)) (d * f.degree) more ≡ true)
       (found : IsRowBasis (twisted_ops base (λ c i. c)) (length more) (IsRelationRow (twisted_ops base (λ c i. c)) (d * f.degree) more) basis) where
-    abbrev p : RingOps (List B)
-    p = twisted_ops base (λ c i. c)
-
-    abbrev ring : IsRing (twisted_ops base (λ c i. c))
-    ring = poly_ring base kb.ring kb.one_ne_zero
-
-    abbrev v : ℕ → ℕ → Element (twisted_ops base (λ c i. c))
-    v = power_rows S A acts x (d * f.degree) rows are_coordinates
-
     more_same : (i : ℕ) → i < length more → (j : ℕ) → entry p more i j ≡ (v i j).0
-    more_same i m j = rows_are.is i (let e = rows_are.count in omega (arith, e, m)) j
+    more_same i m j = rows_are.is i (omega (arith, rows_are.count, m)) j
 
-    basis_is : IsBasisOfRelations A v (suc n) (length basis) (basis_rows p ring (d * f.degree) more basis inside found v more_same)
+    -- The members of the basis.
+    abbrev members : ℕ → ℕ → Element (twisted_ops base (λ c i. c))
+    members = basis_rows p ring (d * f.degree) more basis inside found v more_same
+
+    basis_is : IsBasisOfRelations A v (suc n) (length basis) members
     basis_is = is_basis_for p ring (d * f.degree) more basis inside found v more_same (suc n) rows_are.count
 
     -- an empty basis: none of one more
     pub none_more : length basis ≡ 0 → HasNone (suc n)
-    none_more e c t i = (basis_is.spans c t).is i ∙ ap (λ m. combine A m (basis_is.spans c t).by (basis_rows p ring (d * f.degree) more basis inside found v more_same) i) e
+    none_more e c t i = (basis_is.spans c t).is i ∙ ap (λ m. combine A m (basis_is.spans c t).by members i) e
 
-    -- The first member of the basis.
-    first : ℕ → Element (twisted_ops base (λ c i. c))
-    first = basis_rows p ring (d * f.degree) more basis inside found v more_same 0
-
-    first_at : (i : ℕ) → (first i).0 ≡ coeff p (row_at basis 0) i
-    unfolding first
-    first_at i = basis_entry p ring (d * f.degree) more basis inside found v more_same 0 i
-
-    module _ (some : 0 < length basis) where
-      least_basis : IsLeast A v n first
-      unfolding first
-      least_basis =
-          least_of_basis A (domain A (λ t. length t.0) (poly_euclidean base binv kb)) v n none
-          (length basis) (basis_rows p ring (d * f.degree) more basis inside found v more_same) basis_is some
-
-      top_constant : length (coeff p (row_at basis 0) n) ≡ 1
-      top_constant =
-          let u = least_is_monic A (λ t. length t.0) (poly_euclidean base binv kb) v (moves S A acts x (d * f.degree) rows are_coordinates) n first least_basis (d * f.degree) (power_rows_past S A acts x (d * f.degree) rows are_coordinates) in
-          ap length (sym (first_at n)) ∙ unit_size A (λ t. length t.0) (poly_euclidean base binv kb) (first n) u.0 u.1
-
-      shape : is_row p (length more) (row_at basis 0) ≡ true
-      shape = rows_at p (length more) basis found.shape 0 some
-
-      len : length (row_at basis 0) ≡ suc n
-      len = row_len p (length more) (row_at basis 0) shape ∙ rows_are.count
-
-      -- The first member of the basis is the first relation.
-      pub first_relation : IsFirstRelation r base f b.0 (row_at basis 0)
-      first_relation = record {
-        elems = row_elems p (length more) (row_at basis 0) shape;
-        long = let m = least_long S A acts x (d * f.degree) rows are_coordinates (λ t. length t.0) (poly_euclidean base binv kb) n first least_basis in let e = len in omega (arith, m, e);
-        top = let place : length (row_at basis 0) - 1 ≡ n = (let e = len in omega (arith, e)) in ap (λ i. length (coeff p (row_at basis 0) i)) place ∙ top_constant;
-        is =
-            sym (value_is r inv base binv f k kb l b d degree pos (row_at basis 0) first (λ i _. first_at i))
-            ∙ ap (λ t. (power_sum S acts x t first).0) len
-            ∙ ap (λ t. t.0) (value_zero S A acts x (d * f.degree) rows are_coordinates (suc n) first least_basis.relation.is);
-        least = λ c ci short zero i.
-            ap (λ t. t.0) (least_none S A acts x (d * f.degree) rows are_coordinates (λ t. length t.0) (poly_euclidean base binv kb) n first least_basis (length c)
-            (λ j. (coeff p c j, elem_read p c refl ci j)) (let e = len in omega (arith, short, e)) (λ j m. same_element p _ _ (coeff_past p c j m))
-            (same_element (twisted_ops r f.frob) _ _ (value_is r inv base binv f k kb l b d degree pos c (λ j. (coeff p c j, elem_read p c refl ci j)) (λ j m. refl) ∙ zero)) i);
-      }
+    -- The first member of the basis is the first relation.
+    pub first_relation : 0 < length basis → IsFirstRelation r base f b.0 (row_at basis 0)
+    first_relation some =
+        first_is n (members 0) (least_of_basis A (domain A (λ t. length t.0) (poly_euclidean base binv kb)) v n none (length basis) members basis_is some)
+        (row_at basis 0) (ap (λ m. is_row p m (row_at basis 0)) (sym rows_are.count) ∙ rows_at p (length more) basis found.shape 0 some)
+        (λ i _. refl)

@@ -33,15 +33,14 @@ module _ {E B : Type 0} (r : RingOps E) (inv : E → Option E) (base : RingOps B
   abbrev P : RingOn (Element (twisted_ops base (λ c i. c)))
   P = A r inv base binv f k kb l b d degree pos
 
-  v : ℕ → ℕ → Element (twisted_ops base (λ c i. c))
+  abbrev v : ℕ → ℕ → Element (twisted_ops base (λ c i. c))
   v = power_rows (S r inv base binv f k kb l b d degree pos) P (acts r inv base binv f k kb l b d degree pos) (x r inv base binv f k kb l b d degree pos) (d * f.degree) (rows r inv base binv f k kb l b d degree pos) (are_coordinates r inv base binv f k kb l b d degree pos)
 
-  pub member : (a : List (List B)) → are_elems (twisted_ops base (λ c i. c)) a ≡ true → ℕ → Element (twisted_ops base (λ c i. c))
+  abbrev pub member : (a : List (List B)) → are_elems (twisted_ops base (λ c i. c)) a ≡ true → ℕ → Element (twisted_ops base (λ c i. c))
   member a e i = (coeff p a i, elem_read p a refl e i)
 
   -- a list whose value is zero is a relation of the coordinates
   rel_of : (a : List (List B)) (e : are_elems (twisted_ops base (λ c i. c)) a ≡ true) → relation_value r base f b.0 a ≡ [] → IsRel P v (length a) (member a e)
-  unfolding v member
   rel_of a e z = record {
     past = λ i m. same_element p _ _ (coeff_past p a i m);
     is = rows_zero (S r inv base binv f k kb l b d degree pos) P (acts r inv base binv f k kb l b d degree pos) (x r inv base binv f k kb l b d degree pos) (d * f.degree) (rows r inv base binv f k kb l b d degree pos) (are_coordinates r inv base binv f k kb l b d degree pos) (length a) (member a e)
@@ -50,7 +49,6 @@ module _ {E B : Type 0} (r : RingOps E) (inv : E → Option E) (base : RingOps B
 
   -- and back
   value_of : (a : List (List B)) (c : ℕ → Element (twisted_ops base (λ c i. c))) → ((i : ℕ) → i < length a → (c i).0 ≡ coeff (twisted_ops base (λ c i. c)) a i) → IsRel P v (length a) c → relation_value r base f b.0 a ≡ []
-  unfolding v
   value_of a c same s =
       sym (value_is r inv base binv f k kb l b d degree pos a c same)
       ∙ ap (λ (t : Element (twisted_ops r f.frob)). t.0) (value_zero (S r inv base binv f k kb l b d degree pos) P (acts r inv base binv f k kb l b d degree pos) (x r inv base binv f k kb l b d degree pos) (d * f.degree) (rows r inv base binv f k kb l b d degree pos) (are_coordinates r inv base binv f k kb l b d degree pos) (length a) c s.is)
@@ -94,7 +92,6 @@ module _ {E B : Type 0} (r : RingOps E) (inv : E → Option E) (base : RingOps B
 
   -- There is one least relation: of two, each times the top of the other is the same.
   pub least_only : (a c : List (List B)) → IsLeastRelation r base f b.0 a → IsLeastRelation r base f b.0 c → a ≡ c
-  unfolding member
   least_only a c s t = ext_get_or [] a c len (λ i _. ap (λ (y : Element (twisted_ops base (λ c i. c))). y.0) (same i))
     where
       len : length a ≡ length c
@@ -150,7 +147,6 @@ module _ {E B : Type 0} (r : RingOps E) (inv : E → Option E) (base : RingOps B
   -- The multiples of the members by the inverse of the last.
   pub scaled_done : (g : List (List B)) (c : B) → IsFirstRelation r base f phi g → IsElem base c → base.mul (coeff base (coeff (twisted_ops base (λ c i. c)) g (length g - 1)) 0) c ≡ base.one
       → IsLeastRelation r base f phi (first_values (length g) (λ i. list_mul base (λ c i. c) (constant base c) (coeff (twisted_ops base (λ c i. c)) g i)))
-  unfolding member
   scaled_done g c s cin inverts =
       scaled_least r inv base binv f k kb l (phi, cp) (length phi - 1) (omega (arith, long)) (omega (arith, long)) g (first_values (length g) scaled) s (constant base c, monomial_in base kb.ring c 0 cin)
       (elems-first_values q (length g) scaled (λ i _. mul_in base kb.ring (λ c i. c) (no_twist base) (constant base c) (coeff q g i) (and_parts _ _ (monomial_in base kb.ring c 0 cin)).0 (elems i)))

@@ -51,7 +51,7 @@ module _ {B : Type 0} (base : RingOps B) where
       ∙ get_or-append_seam negative base.one [] base.zero
 
   -- no zero stands at the top of a list whose last member isn't zero
-  trimmed_by_top : (u : List B) → 0 < length u → base.same (coeff base u (length u - 1)) base.zero ≡ false → is_trimmed base u ≡ true
+  pub trimmed_by_top : (u : List B) → 0 < length u → base.same (coeff base u (length u - 1)) base.zero ≡ false → is_trimmed base u ≡ true
   trimmed_by_top u pos e =
       let whole : length u ≤ length u - 1 + 1 = omega arith in
       let trimmed = trim_found base u (length u) pos (omega arith) e (ap (trim base) (take_all (length u) u (omega arith))) in

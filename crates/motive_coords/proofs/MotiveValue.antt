@@ -58,10 +58,10 @@ module _ {E B : Type 0} (r : RingOps E) (inv : E → Option E) (base : RingOps B
   part_total (suc n) g i =
       parts_add r inv base f k l (total S n g) (g n) i ∙ ap (λ t. K.add t (part (g n) i)) (part_total n g i)
 
-  single_same : (c : Element r) (i : ℕ) → part (single r inv base f k l c i) i ≡ c
+  pub single_same : (c : Element r) (i : ℕ) → part (single r inv base f k l c i) i ≡ c
   single_same c i = same_element r _ _ (coeff-monomial_same r k.ring c.0 i c.1)
 
-  single_other : (c : Element r) (i j : ℕ) → j ≢ i → part (single r inv base f k l c i) j ≡ K.zero
+  pub single_other : (c : Element r) (i j : ℕ) → j ≢ i → part (single r inv base f k l c i) j ≡ K.zero
   single_other c i j ne = same_element r _ _ (coeff-monomial_other r k.ring c.0 i j c.1 ne)
 
   pub power_is : (u : Element (twisted_ops r f.frob)) (i : ℕ) → (power S u i).0 ≡ power_of (twisted_ops r f.frob) u.0 i

@@ -1,5 +1,5 @@
 -- Twisted polynomials as elements of their ring: their coefficients, and their digits.
-use Rattle.std.proofs.Common.{◌≡◌, ℕ, suc, ◌-◌, ◌≤◌, inl, inr, Option, true, List, [], ◌∷◌, length, ◌∙◌, ap, arith}
+use Rattle.std.proofs.Common.{◌≡◌, ℕ, suc, ◌-◌, ◌<◌, ◌≤◌, inl, inr, Option, true, List, [], ◌∷◌, length, ◌∙◌, ap, arith}
 use Rattle.std.proofs.lemmas.Bool.{and_parts, cases_lt}
 use Rattle.ring_core.specs.Ring.{RingOps}
 use Rattle.ring_core.specs.Field.{IsField, FrobOps, IsFrobField}
@@ -10,7 +10,7 @@ use Rattle.ring_core.proofs.Carrier.{RingOn, Element, same_element, mul_zero}
 use Rattle.ring_core.proofs.Coefficients.{coeff_past, same_coeffs}
 use Rattle.ring_core.proofs.Twist.{frob_twist}
 use Rattle.ring_core.proofs.ListRing.{value, coeff-add, coeff-mul}
-use Rattle.ring_core.proofs.Monomial.{monomial_in, monomial_product}
+use Rattle.ring_core.proofs.Monomial.{monomial_in, monomial_product, monomial_product_below}
 use Rattle.ring_core.proofs.Degrees.{top_nonzero}
 use Rattle.euclid_theory.proofs.OreSizes.{ores, ore_sizes}
 use Rattle.relation_theory.proofs.PolyEuclid.{scalars}
@@ -61,6 +61,12 @@ module _ {E B : Type 0} (r : RingOps E) (inv : E → Option E) (base : RingOps B
       same_element r _ _
       (coeff-mul r k.ring f.frob (frob_twist r inv base f k l) (monomial r c.0 n) u.0 (and_parts _ _ (monomial_in r k.ring c.0 n c.1)).0 (and_parts _ _ u.1).0 j
       ∙ monomial_product r k.ring f.frob (frob_twist r inv base f k l) c.0 n u.0 c.1 (and_parts _ _ u.1).0 j m)
+
+  pub below_parts : (c : Element r) (n : ℕ) (u : Element (twisted_ops r f.frob)) (j : ℕ) → j < n → parts (twisted.mul (single c n) u) j ≡ (scalars r inv k).zero
+  below_parts c n u j m =
+      same_element r _ _
+      (coeff-mul r k.ring f.frob (frob_twist r inv base f k l) (monomial r c.0 n) u.0 (and_parts _ _ (monomial_in r k.ring c.0 n c.1)).0 (and_parts _ _ u.1).0 j
+      ∙ monomial_product_below r k.ring f.frob (frob_twist r inv base f k l) c.0 n u.0 c.1 (and_parts _ _ u.1).0 j m)
 
   -- the coefficients of c u
   pub scale_parts : (c : Element r) (u : Element (twisted_ops r f.frob)) (i : ℕ) → parts (twisted.mul (single c 0) u) i ≡ (scalars r inv k).mul c (parts u i)

@@ -1,14 +1,14 @@
 -- Relations of a central element `x` of a ring, with coefficients that a ring acts by, through coordinates in
 -- which that action is multiplication.
-use Rattle.std.proofs.Common.{◌≡◌, ◌≢◌, ℕ, zero, suc, ◌<◌, ◌≤◌, inl, inr, refl, sym, ◌∙◌, ap, ap₂, arith}
+use Rattle.std.proofs.Common.{◌≡◌, ◌≢◌, ℕ, zero, suc, ◌≤◌, inl, inr, refl, sym, ◌∙◌, ap, ap₂, arith}
 use Rattle.std.proofs.lemmas.Bool.{cases_lt}
 use Rattle.ring_core.proofs.Carrier.{RingOn, zero_mul, zero_only}
 use Rattle.ring_core.proofs.Series.{total}
 use Rattle.linear_algebra.proofs.Sums.{combine, total_same, total_right}
 use Rattle.finite_ring.proofs.Powers.{power}
 use Rattle.relation_theory.proofs.Euclid.{IsEuclidean, domain, zero_product}
-use Rattle.relation_theory.proofs.Relations.{IsRel, rel_more, rel_scale}
-use Rattle.relation_theory.proofs.Least.{IsLeast, least_is_monic}
+use Rattle.relation_theory.proofs.Relations.{IsRel, rel_more}
+use Rattle.relation_theory.proofs.Least.{IsLeast}
 
 -- The sum of `act (c i) x^i` over `i` below `n`.
 abbrev pub power_sum : {M N : Type 0} → RingOn N → (M → N) → N → ℕ → (ℕ → M) → N
@@ -81,13 +81,6 @@ module _ {M N : Type 0} (S : RingOn N) (A : RingOn M) (act : M → N) (x : N) (w
           zero_product A (domain A size e) (f 0) (row S.one j) (λ q. least.top (ap f z ∙ q))
           (sym (A.zero_add _) ∙ ap (λ n. combine A (suc n) f power_rows j) (sym z) ∙ least.relation.is j))))
     ]
-
-    -- The least relation with top one.
-    pub least_relation : (a : ℕ → M) × (a d ≡ A.one) × ((i : ℕ) → d < i → a i ≡ A.zero) × (power_sum S act x (suc d) a ≡ S.zero)
-    least_relation =
-        let u = least_is_monic A size e power_rows moves d f least w power_rows_past in
-        let s = rel_scale A power_rows (suc d) u.0 f least.relation in
-        (λ i. A.mul u.0 (f i), e.mul_comm u.0 (f d) ∙ u.1, λ i l. s.past i (omega arith), value_zero (suc d) (λ i. A.mul u.0 (f i)) s.is)
 
     pub least_none : (n : ℕ) (c : ℕ → M) → n ≤ d → ((i : ℕ) → n ≤ i → c i ≡ A.zero) → power_sum S act x n c ≡ S.zero → (i : ℕ) → c i ≡ A.zero
     least_none n c l past z =
