@@ -92,15 +92,14 @@ module _ {M : Type 0} (R : RingOn M) (size : M → ℕ) (h : HasSizes R size) wh
   divides_sum a b d x y s w left right =
       ap₂ R.add (ap (R.mul s) left ∙ sym (R.mul_assoc s x d)) (ap (R.mul w) right ∙ sym (R.mul_assoc w y d)) ∙ sym (R.add_mul _ _ d)
 
-  factor_size : (e d : M) → 0 < size (R.mul e d) → 0 < size d → size d ≤ size (R.mul e d)
-  factor_size e d pos some =
+  -- a factor of what isn't zero isn't zero
+  left_factor : (e d : M) → 0 < size (R.mul e d) → 0 < size e
+  left_factor e d pos =
       ⊎_elim
       (λ (none : size e < 1).
       let gone : size (R.mul e d) ≡ 0 = ap size (ap (λ x. R.mul x d) (h.empty e (omega arith)) ∙ zero_mul R d) ∙ h.none in
       absurd (omega arith))
-      (λ (more : 1 ≤ size e).
-      let all : size (R.mul e d) + 1 ≡ size e + size d = h.product e d more some in
-      omega arith)
+      (λ (more : 1 ≤ size e). more)
       (cases_lt (size e) 1)
 
   nonzero_factor : (e d : M) → 0 < size (R.mul e d) → 0 < size d
@@ -111,6 +110,9 @@ module _ {M : Type 0} (R : RingOn M) (size : M → ℕ) (h : HasSizes R size) wh
       absurd (omega arith))
       (λ (more : 1 ≤ size d). more)
       (cases_lt (size d) 1)
+
+  factor_size : (e d : M) → 0 < size (R.mul e d) → 0 < size d → size d ≤ size (R.mul e d)
+  factor_size e d pos some = let more = left_factor e d pos in omega (arith, more, h.product e d more some)
 
   difference_relation : (a b s w t v : M) → R.add (R.mul s a) (R.mul w b) ≡ R.add (R.mul t a) (R.mul v b) → R.add (R.mul (minus R s t) a) (R.mul (minus R w v) b) ≡ R.zero
   difference_relation a b s w t v e =
@@ -252,13 +254,8 @@ module _ {M : Type 0} (R : RingOn M) (size : M → ℕ) (h : HasSizes R size) wh
                 let r = c.all t o (sym left ∙ right) in
                 let tall : size n ≡ size (R.mul t a) = ap size left in
                 let up : size t ≡ size (R.mul r.0 sv) = ap size r.1 in
-                ⊎_elim
-                (λ (no : size t < 1).
-                let gone : size (R.mul t a) ≡ 0 = ap size (ap (λ x. R.mul x a) (h.empty t (omega arith)) ∙ zero_mul R a) ∙ h.none in
-                absurd (omega arith))
-                (λ (yes : 1 ≤ size t).
+                let yes : 0 < size t = left_factor t a (omega arith) in
                 let large : size sv ≤ size (R.mul r.0 sv) = factor_size r.0 sv (omega arith) (omega arith) in
                 let top : size (R.mul t a) + 1 ≡ size t + size a = h.product t a yes pos in
-                omega arith)
-                (cases_lt (size t) 1);
+                omega arith;
           }
