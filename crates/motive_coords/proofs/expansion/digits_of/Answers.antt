@@ -1,4 +1,4 @@
-use Rattle.std.proofs.Common.{◌≡◌, ◌<◌, length, sym, subst, arith}
+use Rattle.std.proofs.Common.{length, sym, subst, arith}
 use Rattle.motive_coords.proofs.Expansions.{IsPart, part_start, part_more, part_done, quotient_less}
 use Rattle.motive_coords.proofs.expansion.digits_of.Goals as goal
 
