@@ -54,10 +54,9 @@ module _ {M : Type 0} (R : RingOn M) (size : M → ℕ) (h : HasSizes R size) wh
       (λ (last : size v < 1). record { u = u; v = v; su = su; sv = sv; wu = wu; wv = wv; chain = c; end = omega arith })
       (λ (more : 1 ≤ size v).
       let d = divide R size h (size u + 1) u v (omega arith) more in
-      let lower : size d.rest < size v = d.lower in
       let next = minus R su (R.mul d.quotient sv) in
       let past = minus R wu (R.mul d.quotient wv) in
-      chain_end a b n v d.rest sv next wv past (omega arith)
+      chain_end a b n v d.rest sv next wv past (omega (arith, l, d.lower))
       (chain_step R size h a b u v su sv wu wv c d.quotient d.rest next past more d.sum d.lower
       (sym (minus_plus R su (R.mul d.quotient sv))) (sym (minus_plus R wu (R.mul d.quotient wv)))))
       (cases_lt (size v) 1)
@@ -69,7 +68,6 @@ module _ {M : Type 0} (R : RingOn M) (size : M → ℕ) (h : HasSizes R size) wh
 
   pub last_of : (a b u v su sv wu wv : M) → Chain R size a b u v su sv wu wv → size v ≡ 0 → Last R size a b u su sv wu wv
   last_of a b u v su sv wu wv c end =
-      let falling : size v < size u = c.falling in
       record {
         x = (c.reach R.one R.zero).x;
         left = divides_left R size h a b u v su sv wu wv c end;
@@ -82,7 +80,7 @@ module _ {M : Type 0} (R : RingOn M) (size : M → ℕ) (h : HasSizes R size) wh
           relation_multiple R size h a b u v su sv wu wv c end n (R.neg o)
               (ap₂ R.add e (neg_mul R o b) ∙ R.add_neg (R.mul o b)),
         );
-        nonzero = omega arith;
+        nonzero = omega (arith, c.falling);
         sizes = c.sizes;
         small = c.rising;
       }
@@ -125,9 +123,7 @@ module _ {M : Type 0} (R : RingOn M) (size : M → ℕ) (h : HasSizes R size) wh
         let one : size d ≡ size (R.mul e g) = ap size left in
         let two : size g ≡ size (R.mul o d) = ap size right in
         let some : 0 < size g = nonzero_factor e g (omega arith) in
-        let up : size g ≤ size (R.mul e g) = factor_size e g (omega arith) some in
-        let down : size d ≤ size (R.mul o d) = factor_size o d (omega arith) pos in
-        let less : size (minus R d g) < size d = tops d g md mg (omega arith) pos in
+        let less : size (minus R d g) < size d = tops d g md mg (omega (arith, one, two, factor_size e g (omega arith) some, factor_size o d (omega arith) pos)) pos in
         let is : minus R d g ≡ R.mul (minus R R.one o) d =
         sym (mul_minus R R.one o d ∙ ap₂ (minus R) (R.one_mul d) (sym right)) in
         let same : size (minus R d g) ≡ size (R.mul (minus R R.one o) d) = ap size is in
