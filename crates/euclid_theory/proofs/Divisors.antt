@@ -54,10 +54,9 @@ module _ {M : Type 0} (R : RingOn M) (size : M → ℕ) (h : HasSizes R size) wh
       (λ (last : size v < 1). record { u = u; v = v; su = su; sv = sv; wu = wu; wv = wv; chain = c; end = omega arith })
       (λ (more : 1 ≤ size v).
       let d = divide R size h (size u + 1) u v (omega arith) more in
-      let lower : size d.rest < size v = d.lower in
       let next = minus R su (R.mul d.quotient sv) in
       let past = minus R wu (R.mul d.quotient wv) in
-      chain_end a b n v d.rest sv next wv past (omega arith)
+      chain_end a b n v d.rest sv next wv past (omega (arith, l, d.lower))
       (chain_step R size h a b u v su sv wu wv c d.quotient d.rest next past more d.sum d.lower
       (sym (minus_plus R su (R.mul d.quotient sv))) (sym (minus_plus R wu (R.mul d.quotient wv)))))
       (cases_lt (size v) 1)
@@ -69,7 +68,6 @@ module _ {M : Type 0} (R : RingOn M) (size : M → ℕ) (h : HasSizes R size) wh
 
   pub last_of : (a b u v su sv wu wv : M) → Chain R size a b u v su sv wu wv → size v ≡ 0 → Last R size a b u su sv wu wv
   last_of a b u v su sv wu wv c end =
-      let falling : size v < size u = c.falling in
       record {
         x = (c.reach R.one R.zero).x;
         left = divides_left R size h a b u v su sv wu wv c end;
@@ -82,7 +80,7 @@ module _ {M : Type 0} (R : RingOn M) (size : M → ℕ) (h : HasSizes R size) wh
           relation_multiple R size h a b u v su sv wu wv c end n (R.neg o)
               (ap₂ R.add e (neg_mul R o b) ∙ R.add_neg (R.mul o b)),
         );
-        nonzero = omega arith;
+        nonzero = omega (arith, c.falling);
         sizes = c.sizes;
         small = c.rising;
       }
@@ -92,15 +90,14 @@ module _ {M : Type 0} (R : RingOn M) (size : M → ℕ) (h : HasSizes R size) wh
   divides_sum a b d x y s w left right =
       ap₂ R.add (ap (R.mul s) left ∙ sym (R.mul_assoc s x d)) (ap (R.mul w) right ∙ sym (R.mul_assoc w y d)) ∙ sym (R.add_mul _ _ d)
 
-  factor_size : (e d : M) → 0 < size (R.mul e d) → 0 < size d → size d ≤ size (R.mul e d)
-  factor_size e d pos some =
+  -- a factor of what isn't zero isn't zero
+  left_factor : (e d : M) → 0 < size (R.mul e d) → 0 < size e
+  left_factor e d pos =
       ⊎_elim
       (λ (none : size e < 1).
       let gone : size (R.mul e d) ≡ 0 = ap size (ap (λ x. R.mul x d) (h.empty e (omega arith)) ∙ zero_mul R d) ∙ h.none in
       absurd (omega arith))
-      (λ (more : 1 ≤ size e).
-      let all : size (R.mul e d) + 1 ≡ size e + size d = h.product e d more some in
-      omega arith)
+      (λ (more : 1 ≤ size e). more)
       (cases_lt (size e) 1)
 
   nonzero_factor : (e d : M) → 0 < size (R.mul e d) → 0 < size d
@@ -111,6 +108,9 @@ module _ {M : Type 0} (R : RingOn M) (size : M → ℕ) (h : HasSizes R size) wh
       absurd (omega arith))
       (λ (more : 1 ≤ size d). more)
       (cases_lt (size d) 1)
+
+  factor_size : (e d : M) → 0 < size (R.mul e d) → 0 < size d → size d ≤ size (R.mul e d)
+  factor_size e d pos some = let more = left_factor e d pos in omega (arith, more, h.product e d more some)
 
   difference_relation : (a b s w t v : M) → R.add (R.mul s a) (R.mul w b) ≡ R.add (R.mul t a) (R.mul v b) → R.add (R.mul (minus R s t) a) (R.mul (minus R w v) b) ≡ R.zero
   difference_relation a b s w t v e =
@@ -123,9 +123,7 @@ module _ {M : Type 0} (R : RingOn M) (size : M → ℕ) (h : HasSizes R size) wh
         let one : size d ≡ size (R.mul e g) = ap size left in
         let two : size g ≡ size (R.mul o d) = ap size right in
         let some : 0 < size g = nonzero_factor e g (omega arith) in
-        let up : size g ≤ size (R.mul e g) = factor_size e g (omega arith) some in
-        let down : size d ≤ size (R.mul o d) = factor_size o d (omega arith) pos in
-        let less : size (minus R d g) < size d = tops d g md mg (omega arith) pos in
+        let less : size (minus R d g) < size d = tops d g md mg (omega (arith, one, two, factor_size e g (omega arith) some, factor_size o d (omega arith) pos)) pos in
         let is : minus R d g ≡ R.mul (minus R R.one o) d =
         sym (mul_minus R R.one o d ∙ ap₂ (minus R) (R.one_mul d) (sym right)) in
         let same : size (minus R d g) ≡ size (R.mul (minus R R.one o) d) = ap size is in
@@ -252,13 +250,8 @@ module _ {M : Type 0} (R : RingOn M) (size : M → ℕ) (h : HasSizes R size) wh
                 let r = c.all t o (sym left ∙ right) in
                 let tall : size n ≡ size (R.mul t a) = ap size left in
                 let up : size t ≡ size (R.mul r.0 sv) = ap size r.1 in
-                ⊎_elim
-                (λ (no : size t < 1).
-                let gone : size (R.mul t a) ≡ 0 = ap size (ap (λ x. R.mul x a) (h.empty t (omega arith)) ∙ zero_mul R a) ∙ h.none in
-                absurd (omega arith))
-                (λ (yes : 1 ≤ size t).
+                let yes : 0 < size t = left_factor t a (omega arith) in
                 let large : size sv ≤ size (R.mul r.0 sv) = factor_size r.0 sv (omega arith) (omega arith) in
                 let top : size (R.mul t a) + 1 ≡ size t + size a = h.product t a yes pos in
-                omega arith)
-                (cases_lt (size t) 1);
+                omega arith;
           }

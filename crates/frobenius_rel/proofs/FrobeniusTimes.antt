@@ -28,7 +28,7 @@ use Rattle.motive_coords.specs.Motive.{IsMotive}
 use Rattle.motive_coords.proofs.Digits.{expanded_powers, digits_in, digits_expanded}
 use Rattle.motive_coords.proofs.Ores.{twisted, parts, parts_past, parts_add, single, scale_parts, scale_length, single_parts, below_parts, twisted_same, digit}
 use Rattle.motive_coords.proofs.Readings.{moved_up, shifts_product, at_past, at_total, at_left, at_power}
-use Rattle.motive_coords.proofs.MotiveValue.{total_swap, single_same, single_other, gathered, gathered_is, gathered_part, gathered_past}
+use Rattle.motive_coords.proofs.MotiveValue.{total_swap, single_same, single_other, gathered, gathered_part, gathered_past}
 use Rattle.motive_coords.proofs.MotiveLaws.{motive_coeffs, motive_exists}
 use Rattle.poly_reduce.specs.Matrices.{row_times}
 use Rattle.frobenius_rel.proofs.ListBases.{combined_is}
@@ -113,7 +113,6 @@ module _ {E B : Type 0} (r : RingOps E) (inv : E → Option E) (base : RingOps B
         | inl m ↦ sym (gathered_part r inv base f k l d (part v) i m)
         | inr m ↦ parts_past r inv base f k l v i (omega (arith, short, m)) ∙ sym (gathered_past r inv base f k l d (part v) i m)
       ])
-      ∙ gathered_is r inv base f k l d (part v)
 
   coeffs_total : (n : ℕ) (g : ℕ → Element (twisted_ops r (λ c i. c))) (e : ℕ) → coeffs r inv k (total P n g) e ≡ total K n (λ i. coeffs r inv k (g i) e)
   coeffs_total zero g e = coeffs_past r inv k P.zero e (omega arith)

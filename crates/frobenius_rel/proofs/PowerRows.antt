@@ -26,7 +26,7 @@ use Rattle.frobenius_rel.proofs.FrobeniusTimes.{times_motive}
 use Rattle.motive_coords.proofs.Ores.{twisted}
 use Rattle.motive_coords.proofs.MotiveValue.{power_is}
 use Rattle.motive_coords.proofs.OverT.{frob_of, over_t_is}
-use Rattle.frobenius_rel.proofs.Relations.{row_is, ArePowerRows, HasNone, none_at_start, none_ends, none_more, first_relation}
+use Rattle.frobenius_rel.proofs.Relations.{row_is, ArePowerRows, HasNone, none_ends, none_more, first_relation}
 
 module _ {E B : Type 0} (r : RingOps E) (inv : E → Option E) (base : RingOps B) (binv : B → Option B) (f : FrobOps E B)
     (k : IsField r inv) (kb : IsField base binv) (l : IsFrobField r base f)
@@ -53,14 +53,6 @@ module _ {E B : Type 0} (r : RingOps E) (inv : E → Option E) (base : RingOps B
     pub shape : are_rows (twisted_ops base (λ c i. c)) (d * f.degree) list ≡ true
     pub none : HasNone r inv base binv f k kb l b d degree pos n
     pub next : IsMotive r f.frob phi (power_of (twisted_ops r f.frob) (frobenius r f) n) u
-
-  pub search_start : (u : List (List E)) → IsMotive r f.frob phi (r.one ∷ []) u → IsSearch 0 [] u
-  search_start u s = record {
-    rows_are = record { count = refl; is = λ i m. absurd (omega (arith, m)) };
-    shape = refl;
-    none = none_at_start r inv base binv f k kb l b d degree pos;
-    next = s;
-  }
 
   -- the coordinates of the next power
   search_row : (n : ℕ) (list : List (List (List B))) (u : List (List E)) (v : List (List B)) → IsSearch n list u → v ≡ base_parts r base f u

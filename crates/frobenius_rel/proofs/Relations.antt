@@ -60,9 +60,6 @@ module _ {E B : Type 0} (r : RingOps E) (inv : E → Option E) (base : RingOps B
   abbrev pub HasNone : ℕ → Type 0
   HasNone n = (c : ℕ → Element (twisted_ops base (λ c i. c))) → IsRel A (power_rows S A acts x (d * f.degree) rows are_coordinates) n c → (i : ℕ) → c i ≡ A.zero
 
-  pub none_at_start : HasNone 0
-  none_at_start c s i = s.past i (omega arith)
-
   -- the number of coordinates bounds the number of powers without a relation
   pub none_ends : HasNone (suc (d * f.degree)) → ⊥
   none_ends =

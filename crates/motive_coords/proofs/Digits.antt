@@ -11,20 +11,11 @@ use Rattle.relation_theory.proofs.Relations.{before}
 
 module _ {N : Type 0} (S : RingOn N) (b : N) where
   -- The sum of `x j b^j` over `j` below `n`, by Horner's rule.
-  pub expanded : ℕ → (ℕ → N) → N
+  abbrev pub expanded : ℕ → (ℕ → N) → N
   expanded zero x = S.zero
   expanded (suc n) x = S.add (S.mul (expanded n (λ j. x (suc j))) b) (x 0)
 
-  pub expanded_first : (n : ℕ) (x : ℕ → N) → expanded (suc n) x ≡ S.add (S.mul (expanded n (λ j. x (suc j))) b) (x 0)
-  unfolding expanded
-  expanded_first n x = refl
-
-  pub expanded_none : (x : ℕ → N) → expanded 0 x ≡ S.zero
-  unfolding expanded
-  expanded_none x = refl
-
   pub expanded_add : (n : ℕ) (x y : ℕ → N) → expanded n (λ j. S.add (x j) (y j)) ≡ S.add (expanded n x) (expanded n y)
-  unfolding expanded
   expanded_add zero x y = sym (S.zero_add S.zero)
   expanded_add (suc n) x y =
       ap (λ t. S.add (S.mul t b) (S.add (x 0) (y 0))) (expanded_add n (λ j. x (suc j)) (λ j. y (suc j)))
@@ -32,7 +23,6 @@ module _ {N : Type 0} (S : RingOn N) (b : N) where
 
   -- a factor on the left
   pub expanded_left : (c : N) (n : ℕ) (x : ℕ → N) → expanded n (λ j. S.mul c (x j)) ≡ S.mul c (expanded n x)
-  unfolding expanded
   expanded_left c zero x = sym (mul_zero S c)
   expanded_left c (suc n) x =
       ap (λ t. S.add (S.mul t b) (S.mul c (x 0))) (expanded_left c n (λ j. x (suc j)))
@@ -40,14 +30,12 @@ module _ {N : Type 0} (S : RingOn N) (b : N) where
 
   -- zeros from n on
   pub expanded_zero : (n : ℕ) (x : ℕ → N) → ((j : ℕ) → x j ≡ S.zero) → expanded n x ≡ S.zero
-  unfolding expanded
   expanded_zero zero x e = refl
   expanded_zero (suc n) x e =
       ap₂ (λ s t. S.add (S.mul s b) t) (expanded_zero n (λ j. x (suc j)) (λ j. e (suc j))) (e 0)
       ∙ ap (λ t. S.add t S.zero) (zero_mul S b) ∙ S.zero_add S.zero
 
   pub expanded_more : (n m : ℕ) (x : ℕ → N) → n ≤ m → ((j : ℕ) → n ≤ j → x j ≡ S.zero) → expanded m x ≡ expanded n x
-  unfolding expanded
   expanded_more zero m x l e = expanded_zero m x (λ j. e j (omega arith))
   expanded_more (suc n) zero x l e = absurd (omega arith)
   expanded_more (suc n) (suc m) x l e =
@@ -55,7 +43,6 @@ module _ {N : Type 0} (S : RingOn N) (b : N) where
 
   -- the same sum with the powers written out, given b^0, b^1, ..
   pub expanded_powers : (power : ℕ → N) → power 0 ≡ S.one → ((j : ℕ) → power (suc j) ≡ S.mul (power j) b) → (n : ℕ) (x : ℕ → N) → total S n (λ j. S.mul (x j) (power j)) ≡ expanded n x
-  unfolding expanded
   expanded_powers power first next zero x = refl
   expanded_powers power first next (suc n) x =
       total_first S n (λ j. S.mul (x j) (power j))
@@ -81,7 +68,7 @@ module _ {N : Type 0} (S : RingOn N) (size : N → ℕ) (h : HasSizes S size) (b
   rest_low : (u : N) → size (division u).rest ≤ d
   rest_low u = let l = (division u).lower in omega (arith, l, degree)
 
-  digit_from : ℕ → N → ℕ → N
+  abbrev digit_from : ℕ → N → ℕ → N
   digit_from zero u j = S.zero
   digit_from (suc n) u zero = (division u).rest
   digit_from (suc n) u (suc j) = digit_from n (division u).quotient j
@@ -91,7 +78,6 @@ module _ {N : Type 0} (S : RingOn N) (size : N → ℕ) (h : HasSizes S size) (b
   digits u = digit_from (size u) u
 
   digit_in : (n : ℕ) (u : N) (j : ℕ) → size (digit_from n u j) ≤ d
-  unfolding digit_from
   digit_in zero u j = let e = h.none in omega (arith, e)
   digit_in (suc n) u zero = rest_low u
   digit_in (suc n) u (suc j) = digit_in n (division u).quotient j
@@ -101,7 +87,6 @@ module _ {N : Type 0} (S : RingOn N) (size : N → ℕ) (h : HasSizes S size) (b
   digits_in u j = digit_in (size u) u j
 
   digit_past : (n : ℕ) (u : N) (j : ℕ) → n ≤ j → digit_from n u j ≡ S.zero
-  unfolding digit_from
   digit_past zero u j l = refl
   digit_past (suc n) u zero l = absurd (omega arith)
   digit_past (suc n) u (suc j) l = digit_past n (division u).quotient j (omega arith)
@@ -111,13 +96,11 @@ module _ {N : Type 0} (S : RingOn N) (size : N → ℕ) (h : HasSizes S size) (b
   digits_past u j l = digit_past (size u) u j l
 
   digit_expanded : (n : ℕ) (u : N) → size u ≤ n → expanded S b n (digit_from n u) ≡ u
-  unfolding digit_from
-  digit_expanded zero u l = ap (λ t. t) (expanded_zero S b 0 _ (λ j. refl)) ∙ sym (h.empty u (omega arith))
+  digit_expanded zero u l = sym (h.empty u (omega arith))
   digit_expanded (suc n) u l =
       let q = division u in
       let s = quotient_smaller u q.quotient q.rest q.sum (rest_low u) in
-      expanded_first S b n (digit_from (suc n) u)
-      ∙ ap (λ t. S.add (S.mul t b) q.rest) (digit_expanded n q.quotient (omega (arith, l, s))) ∙ sym q.sum
+      ap (λ t. S.add (S.mul t b) q.rest) (digit_expanded n q.quotient (omega (arith, l, s))) ∙ sym q.sum
 
   -- u is the sum of its digits times powers of b
   pub digits_expanded : (u : N) (n : ℕ) → size u ≤ n → expanded S b n (digits u) ≡ u
@@ -133,10 +116,10 @@ module _ {N : Type 0} (S : RingOn N) (size : N → ℕ) (h : HasSizes S size) (b
   pub expanded_only : (n : ℕ) (x y : ℕ → N) → ((j : ℕ) → size (x j) ≤ d) → ((j : ℕ) → size (y j) ≤ d) → expanded S b n x ≡ expanded S b n y → (j : ℕ) → j < n → x j ≡ y j
   expanded_only zero x y dx dy e j l = absurd (omega arith)
   expanded_only (suc n) x y dx dy e zero l =
-      (same_parts _ _ (x 0) (y 0) (dx 0) (dy 0) (sym (expanded_first S b n x) ∙ e ∙ expanded_first S b n y)).1
+      (same_parts _ _ (x 0) (y 0) (dx 0) (dy 0) e).1
   expanded_only (suc n) x y dx dy e (suc j) l =
       expanded_only n (λ i. x (suc i)) (λ i. y (suc i)) (λ i. dx (suc i)) (λ i. dy (suc i))
-      (same_parts _ _ (x 0) (y 0) (dx 0) (dy 0) (sym (expanded_first S b n x) ∙ e ∙ expanded_first S b n y)).0 j (omega arith)
+      (same_parts _ _ (x 0) (y 0) (dx 0) (dy 0) e).0 j (omega arith)
 
   -- the digits of u are those of any expansion of it
   pub digits_only : (u : N) (n : ℕ) (x : ℕ → N) → ((j : ℕ) → size (x j) ≤ d) → ((j : ℕ) → n ≤ j → x j ≡ S.zero) → expanded S b n x ≡ u → (j : ℕ) → digits u j ≡ x j
@@ -158,7 +141,7 @@ module _ {N : Type 0} (S : RingOn N) (size : N → ℕ) (h : HasSizes S size) (b
       let n = size u in
       digits_only (S.mul u b) (suc n) (before S.zero (digits u)) (at_each (λ j. size (before S.zero (digits u) j) ≤ d) (let e = h.none in omega (arith, e)) (digits_in u))
       (at_each (λ j. suc n ≤ j → before S.zero (digits u) j ≡ S.zero) (λ l. refl) (λ j l. digits_past u j (omega arith)))
-      (expanded_first S b n (before S.zero (digits u)) ∙ ap (λ t. S.add (S.mul t b) S.zero) (digits_expanded u n (omega arith)) ∙ add_zero S _)
+      (ap (λ t. S.add (S.mul t b) S.zero) (digits_expanded u n (omega arith)) ∙ add_zero S _)
 
   -- multiplication on the left by an element that keeps digits
   pub digits_left : (c u : N) → ((x : N) → size x ≤ d → size (S.mul c x) ≤ d) → (j : ℕ) → digits (S.mul c u) j ≡ S.mul c (digits u j)

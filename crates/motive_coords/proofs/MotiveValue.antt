@@ -69,21 +69,15 @@ module _ {E B : Type 0} (r : RingOps E) (inv : E → Option E) (base : RingOps B
   power_is u (suc i) = ap (λ t. list_mul r f.frob t u.0) (power_is u i)
 
   -- the sum of the terms c_i tau^i
-  pub gathered : (n : ℕ) → (ℕ → Element r) → Element (twisted_ops r f.frob)
+  abbrev pub gathered : (n : ℕ) → (ℕ → Element r) → Element (twisted_ops r f.frob)
   gathered n c = total S n (λ i. single r inv base f k l (c i) i)
 
-  pub gathered_is : (n : ℕ) (c : ℕ → Element r) → gathered n c ≡ total S n (λ i. single r inv base f k l (c i) i)
-  unfolding gathered
-  gathered_is n c = refl
-
   pub gathered_part : (n : ℕ) (c : ℕ → Element r) (i : ℕ) → i < n → part (gathered n c) i ≡ c i
-  unfolding gathered
   gathered_part n c i m =
       part_total n (λ j. single r inv base f k l (c j) j) i
       ∙ total_single K n i _ m (λ j _ ne. single_other (c j) j i (λ e. ne (sym e))) ∙ single_same (c i) i
 
   pub gathered_past : (n : ℕ) (c : ℕ → Element r) (i : ℕ) → n ≤ i → part (gathered n c) i ≡ K.zero
-  unfolding gathered
   gathered_past n c i m =
       part_total n (λ j. single r inv base f k l (c j) j) i
       ∙ total_zero K n _ (λ j a. let apart : i ≢ j = omega (arith, a, m) in single_other (c j) j i apart)
@@ -101,14 +95,13 @@ module _ {E B : Type 0} (r : RingOps E) (inv : E → Option E) (base : RingOps B
   module _ (b : Element (twisted_ops r f.frob)) (d : ℕ) (degree : length b.0 ≡ suc d) (pos : 1 ≤ d) where
     -- `c i` are the coefficients of member `i`, zero from `size i` on
     module _ (c : ℕ → ℕ → Element r) (size : ℕ → ℕ) (past : (i j : ℕ) → size i ≤ j → c i j ≡ K.zero) where
-      pub value_of : Element (twisted_ops r f.frob)
+      abbrev pub value_of : Element (twisted_ops r f.frob)
       value_of = total S d (λ i. total S (size i) (λ j. S.mul (single r inv base f k l (c i j) i) (power S b j)))
 
       abbrev pub digit_of : ℕ → Element (twisted_ops r f.frob)
       digit_of j = gathered d (λ i. c i j)
 
       pub value_digits : (n : ℕ) → ((i : ℕ) → i < d → size i ≤ n) → value_of ≡ expanded S b n digit_of
-      unfolding value_of gathered
       value_digits n bound =
           total_same S d _ _ (λ i m.
           sym (total_rest S (size i) n _ (bound i m) (λ j a _. ap (λ t. S.mul t (power S b j)) (single_zero (c i j) i (past i j a)) ∙ zero_mul S (power S b j))))
@@ -129,7 +122,6 @@ module _ {E B : Type 0} (r : RingOps E) (inv : E → Option E) (base : RingOps B
       list_past i j m = same_element r _ _ (coeff_past r (coeff (twisted_ops r (λ c i. c)) list i) j m)
 
       pub value_list : length list ≡ d → (value_of (members list inside) list_size list_past).0 ≡ motive_value r f.frob b.0 list
-      unfolding value_of
       value_list count =
           total_is (twisted_ops r f.frob) (frob_ring r inv base f k l) d (λ i. total S (list_size i) (λ j. S.mul (single r inv base f k l (members list inside i j) i) (power S b j)))
           ∙ sum_same (twisted_ops r f.frob) (frob_ring r inv base f k l) d _ _ (λ i _.
@@ -138,23 +130,20 @@ module _ {E B : Type 0} (r : RingOps E) (inv : E → Option E) (base : RingOps B
           ∙ ap (λ n. sum_below (twisted_ops r f.frob) n (λ i. sum_below (twisted_ops r f.frob) (list_size i) (λ j. list_mul r f.frob (monomial r (members list inside i j).0 i) (power_of (twisted_ops r f.frob) b.0 j)))) (sym count)
 
     module _ (u : Element (twisted_ops r f.frob)) (list : List (List E)) (s : IsMotive r f.frob b.0 u.0 list) where
-      c : ℕ → ℕ → Element r
+      abbrev c : ℕ → ℕ → Element r
       c = members list s.elems
 
-      size : ℕ → ℕ
+      abbrev size : ℕ → ℕ
       size = list_size list s.elems
 
       c_past : (i j : ℕ) → size i ≤ j → c i j ≡ K.zero
-      unfolding c size
       c_past = list_past list s.elems
 
       value_is : (value_of c size c_past).0 ≡ u.0
-      unfolding c size c_past
       value_is = value_list list s.elems (let e = s.count in omega (arith, e, degree)) ∙ sym s.is
 
       -- the digits of u
       pub motive_digits : (j i : ℕ) → i < d → part (digit r inv base f k l b d degree pos u j) i ≡ members list s.elems i j
-      unfolding c gathered
       motive_digits j i m =
           let n = most d size in
           ap (λ t. part t i)

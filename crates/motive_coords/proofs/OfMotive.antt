@@ -1,5 +1,5 @@
 -- The twisted polynomial with given motive coordinates, by Horner's rule.
-use Rattle.std.proofs.Common.{◌≡◌, ℕ, zero, suc, ◌+◌, ◌-◌, ◌<◌, ◌≤◌, inl, inr, Option, true, List, length, sym, ◌∙◌, ap, ap₂, arith, subst}
+use Rattle.std.proofs.Common.{◌≡◌, ℕ, zero, suc, ◌+◌, ◌-◌, ◌<◌, ◌≤◌, inl, inr, Option, true, List, length, refl, sym, ◌∙◌, ap, ap₂, arith, subst}
 use mathlib.Core.Path.{fun_ext}
 use Rattle.std.proofs.lemmas.Bool.{cases_lt}
 use Rattle.ring_core.specs.Ring.{RingOps}
@@ -10,7 +10,7 @@ use Rattle.ring_core.proofs.Carrier.{RingOn, Element, same_element}
 use Rattle.ring_core.proofs.Coefficients.{coeff_past, coeff-list_of, canonical-list_of}
 use Rattle.motive_coords.specs.Motive.{motive_value}
 use Rattle.motive_coords.specs.steps.Expansion.{digit_at, digits_value}
-use Rattle.motive_coords.proofs.Digits.{expanded, expanded_none, expanded_first}
+use Rattle.motive_coords.proofs.Digits.{expanded}
 use Rattle.motive_coords.proofs.Ores.{twisted, twisted_same}
 use Rattle.motive_coords.proofs.MotiveValue.{members, list_size, list_past, gathered, gathered_part, gathered_past, value_of, value_digits, value_list}
 
@@ -57,12 +57,11 @@ module _ {E B : Type 0} (r : RingOps E) (inv : E → Option E) (base : RingOps B
       elements_zero = (r.zero, k.ring.closed.zero_in)
 
   value_from : (from n : ℕ) → digits_value r f.frob b.0 list from n ≡ (expanded S b n (λ e. digit (from + e))).0
-  value_from from zero = ap (λ (t : Element (twisted_ops r f.frob)). t.0) (sym (expanded_none S b (λ e. digit (from + e))))
+  value_from from zero = refl
   value_from from (suc n) =
       ap₂ (λ s t. list_add r (list_mul r f.frob s b.0) t)
       (value_from (suc from) n ∙ ap (λ t. (expanded S b n t).0) (fun_ext (λ (e : ℕ). let same : suc from + e ≡ from + suc e = omega arith in ap digit same)))
       (digit_is from ∙ (let same : from ≡ from + 0 = omega arith in ap (λ i. (digit i).0) same))
-      ∙ ap (λ (t : Element (twisted_ops r f.frob)). t.0) (sym (expanded_first S b n (λ e. digit (from + e))))
 
   -- the digits below a bound of the members' lengths give the value
   pub motive_of : (n : ℕ) → ((i : ℕ) → length (coeff (twisted_ops r (λ c i. c)) list i) ≤ n) → digits_value r f.frob b.0 list 0 n ≡ motive_value r f.frob b.0 list

@@ -52,25 +52,23 @@ module _ {E B : Type 0} (r : RingOps E) (inv : E → Option E) (base : RingOps B
   modulo q = mod-lt q (let p = l.degree_pos in omega (arith, p))
 
   -- The base coordinate of `c` at `q` modulo the degree.
-  place : ℕ → Element r → Element base
+  abbrev place : ℕ → Element r → Element base
   place q c = (f.coord c.0 (q % f.degree), l.coord_in c.0 (q % f.degree) c.1 (modulo q))
 
   place_add : (q : ℕ) (x y : Element r) → place q (K.add x y) ≡ F.add (place q x) (place q y)
-  unfolding place
   place_add q x y = same_element base _ _ (l.coord_add x.0 y.0 (q % f.degree) x.1 y.1 (modulo q))
 
   place_zero : (q : ℕ) → place q K.zero ≡ F.zero
   place_zero q = zero_only F (place q K.zero) (sym (place_add q K.zero K.zero) ∙ ap (place q) (K.zero_add K.zero))
 
-  embed : Element base → Element r
+  abbrev embed : Element base → Element r
   embed c = (f.embed c.0, l.embed_in c.0 c.1)
 
   place_scale : (c : Element base) (x : Element r) (q : ℕ) → place q (K.mul (embed c) x) ≡ F.mul c (place q x)
-  unfolding place embed
   place_scale c x q = same_element base _ _ (l.coord_scale c.0 x.0 (q % f.degree) c.1 x.1 (modulo q))
 
   -- The constant `c`.
-  const : Element base → Element (twisted_ops r f.frob)
+  abbrev const : Element base → Element (twisted_ops r f.frob)
   const c = single r inv base f k l (embed c) 0
 
   -- What coordinate `q` reads of a digit.
@@ -81,11 +79,9 @@ module _ {E B : Type 0} (r : RingOps E) (inv : E → Option E) (base : RingOps B
   read_add q u v = ap (place q) (parts_add r inv base f k l u v (q / f.degree)) ∙ place_add q _ _
 
   read_scale : (c : Element base) (q : ℕ) (u : Element (twisted_ops r f.frob)) → read q (S.mul (const c) u) ≡ F.mul c (read q u)
-  unfolding const
   read_scale c q u = ap (place q) (scale_parts r inv base f k l (embed c) u (q / f.degree)) ∙ place_scale c _ q
 
   const_central : (c : Element base) (u : Element (twisted_ops r f.frob)) → S.mul (const c) u ≡ S.mul u (const c)
-  unfolding const embed
   const_central c u = same_element (twisted_ops r f.frob) _ _ (base_central r inv base f k l c.0 u.0 c.1 (and_parts _ _ u.1).0)
 
   -- `b` is the image of T, of degree `d`
@@ -110,12 +106,10 @@ module _ {E B : Type 0} (r : RingOps E) (inv : E → Option E) (base : RingOps B
         ap (place q) (parts_past r inv base f k l _ (q / f.degree) (omega (arith, short, far))) ∙ place_zero q
 
     coord_scale : (c : Element base) (u : Element (twisted_ops r f.frob)) (q e : ℕ) → coord_at (S.mul (const c) u) q e ≡ F.mul c (coord_at u q e)
-    unfolding const
     coord_scale c u q =
         at_left S F size sizes b d degree pos (read q) (read_add q) (const c) u c (λ x s. scale_length r inv base f k l (embed c) x d s) (read_scale c q)
 
     coord_inj : (u : Element (twisted_ops r f.frob)) → ((q e : ℕ) → coord_at u q e ≡ F.zero) → u ≡ S.zero
-    unfolding place
     coord_inj u zeros =
         digits_zero S size sizes b d degree pos u (λ e.
         twisted_same r inv base f k l (digit r inv base f k l b d degree pos u e) S.zero (λ i. member e i ∙ sym (parts_past r inv base f k l S.zero i (omega arith))))
@@ -178,7 +172,7 @@ module _ {E B : Type 0} (r : RingOps E) (inv : E → Option E) (base : RingOps B
 
     -- the image, by its definition
     pub act_is : (a : Element (twisted_ops base (λ c i. c))) → (acting a).0 ≡ image r base f b.0 a.0
-    unfolding acting const embed
+    unfolding acting
     act_is a =
         total_is (twisted_ops r f.frob) (frob_ring r inv base f k l) (length a.0) (λ i. S.mul (const (coeffs base binv kb a i)) (power S b i))
         ∙ sum_same (twisted_ops r f.frob) (frob_ring r inv base f k l) (length a.0) _ _ (λ i m.
@@ -187,7 +181,6 @@ module _ {E B : Type 0} (r : RingOps E) (inv : E → Option E) (base : RingOps B
     -- what `row` is, by the definition of the coordinates over the polynomials in T
     row_low : (u : Element (twisted_ops r f.frob)) (list : List (List E)) (s : IsMotive r f.frob b.0 u.0 list) (q : ℕ) → q / f.degree < d
         → list_of base (length (coeff (twisted_ops r (λ c i. c)) list (q / f.degree))) (λ e. f.coord (coeff r (coeff (twisted_ops r (λ c i. c)) list (q / f.degree)) e) (q % f.degree)) ≡ (coordinate_row u q).0
-    unfolding place
     row_low u list s q m =
         let n = length (coeff (twisted_ops r (λ c i. c)) list (q / f.degree)) in
         let member : ℕ → Element r = members r inv base f k l b d degree pos list s.elems (q / f.degree) in
@@ -231,7 +224,6 @@ module _ {E B : Type 0} (r : RingOps E) (inv : E → Option E) (base : RingOps B
 
     pub over_t_scale : (c : Element base) (u : Element (twisted_ops r f.frob)) (v y : List (List B)) → IsOverT r base f b.0 u.0 v → IsOverT r base f b.0 (list_mul r f.frob (constant r (f.embed c.0)) u.0) y
         → (q : ℕ) → coeff (twisted_ops base (λ c i. c)) y q ≡ list_mul base (λ c i. c) (constant base c.0) (coeff (twisted_ops base (λ c i. c)) v q)
-    unfolding const embed
     over_t_scale c u v y s o q =
         over_t_is (S.mul (const c) u) y o q
         ∙ ap (λ (x : Element (twisted_ops base (λ c i. c))). x.0) (poly_same base binv kb (coordinate_row (S.mul (const c) u) q) (A.mul (constant_poly base binv kb c) (coordinate_row u q)) (λ e.

@@ -35,7 +35,7 @@ module _ {M : Type 0} (R : RingOn M) (size : M → ℕ) (h : IsEuclidean R size)
   abbrev past : (i : ℕ) → d < i → f i ≡ R.zero
   past i l = least.relation.past i (omega arith)
 
-  -- x a = x (a - b) + x b
+  -- x a = x (a - b c) + (x b) c
   apart_sum : (x a b c : M) → R.mul x a ≡ R.add (R.mul x (R.add a (R.mul (R.neg b) c))) (R.mul (R.mul x b) c)
   apart_sum x a b c =
       ap (R.mul x) (sym (ap (λ t. R.add (R.add a t) (R.mul b c)) (neg_mul R b c) ∙ minus_plus R a (R.mul b c)))

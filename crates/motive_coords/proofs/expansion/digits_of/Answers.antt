@@ -1,4 +1,4 @@
-use Rattle.std.proofs.Common.{◌≡◌, ◌<◌, length, sym, subst, arith}
+use Rattle.std.proofs.Common.{length, sym, subst, arith}
 use Rattle.motive_coords.proofs.Expansions.{IsPart, part_start, part_more, part_done, quotient_less}
 use Rattle.motive_coords.proofs.expansion.digits_of.Goals as goal
 
@@ -18,20 +18,17 @@ loop-alloc-init g c =
 pub loop-alloc-smaller : goal.loop-alloc-smaller
 loop-alloc-smaller g c =
     let field = c.args.field.now in
-    let some : 0 < length c.loop-alloc.rest = let e = c.len.ensures in let t = c.loop-alloc-test.true in omega (arith, e, t) in
-    quotient_less (g.K.Field.ops field) (g.K.Field.inv_of field) (g.K.Base.Field.ops (g.K.FrobField.base_of field)) (g.K.FrobField.frob_ops field) (g.met.K.Field.laws field) (g.met.K.FrobField.frob_laws field)
-    c.args.letter.now c.requires.letter c.requires.long c.loop-alloc.rest c.in_ok-division.division.quotient c.in_ok-division.division.remainder c.loop-alloc.invariant.rest_in some c.in_ok-division.ensures
+    quotient_less _ _ _ _ (g.met.K.Field.laws field) (g.met.K.FrobField.frob_laws field) c.args.letter.now c.requires.letter c.requires.long _ _ _
+    c.loop-alloc.invariant.rest_in (omega (arith, c.len.ensures, c.loop-alloc-test.true)) c.in_ok-division.ensures
 
 pub loop-alloc-preserved : goal.loop-alloc-preserved
 loop-alloc-preserved g c =
     let field = c.args.field.now in
-    part_more (g.K.Field.ops field) (g.K.Field.inv_of field) (g.K.Base.Field.ops (g.K.FrobField.base_of field)) (g.K.FrobField.frob_ops field) (g.met.K.Field.laws field) (g.met.K.FrobField.frob_laws field)
-    c.args.letter.now c.requires.letter c.requires.long c.args.u.now c.loop-alloc.rest c.in_ok-division.division.quotient c.in_ok-division.division.remainder c.loop-alloc.digits.items c.push.new.self.items
+    part_more _ _ _ _ (g.met.K.Field.laws field) (g.met.K.FrobField.frob_laws field) c.args.letter.now c.requires.letter c.requires.long _ _ _ _ _ _
     c.requires.elem c.loop-alloc.invariant c.in_ok-division.ensures c.in_ok-push.ensures.items
 
 pub returns : goal.returns
 returns g c =
     let field = c.args.field.now in
-    let none : length c.loop-alloc.rest ≡ 0 = let e = c.len.ensures in let t = c.loop-alloc-test.false in omega (arith, e, t) in
-    part_done (g.K.Field.ops field) (g.K.Field.inv_of field) (g.K.Base.Field.ops (g.K.FrobField.base_of field)) (g.K.FrobField.frob_ops field) (g.met.K.Field.laws field) (g.met.K.FrobField.frob_laws field)
-    c.args.letter.now c.requires.letter c.requires.long c.args.u.now c.loop-alloc.rest c.loop-alloc.digits.items none c.loop-alloc.invariant
+    part_done _ _ _ _ (g.met.K.Field.laws field) (g.met.K.FrobField.frob_laws field) c.args.letter.now c.requires.letter c.requires.long _ _ _
+    (omega (arith, c.len.ensures, c.loop-alloc-test.false)) c.loop-alloc.invariant
