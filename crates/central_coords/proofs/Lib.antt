@@ -3,5 +3,4 @@ pub mod Places
 pub mod Raised
 pub mod Rows
 pub mod Blocks
-pub mod Linear
 pub mod Leading

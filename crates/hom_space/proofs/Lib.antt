@@ -1,11 +1,5 @@
-pub mod Relations
-pub mod Unique
-pub mod SystemRows
-pub mod Powers
-pub mod FlatRows
 pub mod HomRows
+pub mod BoundedList
 pub mod FullList
-pub mod Square
-pub mod Exists
-pub mod ShiftRows
+pub mod SystemRows
 pub mod Shifts

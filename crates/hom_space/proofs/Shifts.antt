@@ -1,336 +1,261 @@
 -- The products of the members of a full list with powers of tau^n that have degree at most `d` combine to all
 -- homomorphisms up to that degree: no term of a homomorphism's combination has a higher lead than the homomorphism.
-use Rattle.std.proofs.Common.{◌≡◌, ℕ, zero, suc, ◌+◌, ◌-◌, ◌*◌, ◌/◌, ◌%◌, ◌<◌, ◌≤◌, true, nat_lt, max, Option, List, length, refl, sym, ◌∙◌, ap, subst, ⊎_elim, eq-eqb, ltb-true, ltb-false, arith}
-use Rattle.std.proofs.Math.Nat.{mul-le-mul_right, le-div_iff_mul-le}
-use Rattle.std.proofs.lemmas.Bool.{and_from, cases_lt}
-use Rattle.ring_core.specs.Ring.{RingOps}
-use Rattle.ring_core.specs.Field.{IsField, FrobOps, IsFrobField}
+use Rattle.std.proofs.Common.{◌≡◌, ℕ, zero, suc, ◌+◌, ◌-◌, ◌*◌, ◌/◌, ◌%◌, ◌<◌, ◌≤◌, ◌↔◌, ◌++◌, inl, inr, true, cond, nat_lt, List, [], length, refl, sym, ◌∙◌, ap, subst, ⊎_elim, eq-eqb, le-ltb, ltb-true, ltb-false, arith}
+use Rattle.std.proofs.Math.Nat.{mul-le-mul_right, le-div_iff_mul-le, lt_of_mul-lt-mul_right}
+use Rattle.std.proofs.lemmas.List.{get_or_append_left, get_or-append-add, length-append}
+use Rattle.std.proofs.lemmas.Bool.{and_parts, and_from, cases_lt, cond_both}
+use Rattle.ring_core.specs.Ring.{RingOps, IsElem}
+use Rattle.ring_core.specs.Field.{FrobOps}
 use Rattle.ring_core.specs.Coeffs.{coeff, are_elems, is_canonical, trim, first_values}
-use Rattle.ring_core.specs.Twisted.{twisted_ops}
-use Rattle.ring_core.proofs.Carrier.{RingOn, Element, same_element, elements, zero_mul, mul_zero, minus_same}
-use Rattle.ring_core.proofs.Coefficients.{elem_read, coeff_past, canonical-trim, coeff-trim, elems-first_values}
+use Rattle.ring_core.proofs.Carrier.{RingOn, Element, same_element, zero_mul, mul_zero}
+use Rattle.ring_core.proofs.Coefficients.{elem_read, coeff_past, coeff-first_values, canonical-trim, coeff-trim, elems-first_values}
 use Rattle.ring_core.proofs.FirstValues.{length-first_values, at-first_values}
-use Rattle.linear_algebra.specs.Linear.{row_at, entry, is_row, are_rows, IsCombination, IsRelation, IsEchelonBasis}
-use Rattle.linear_algebra.proofs.Sums.{combine, by_bool, product_assoc, total_zero}
+use Rattle.linear_algebra.specs.Combines.{combined}
+use Rattle.linear_algebra.specs.Linear.{row_at, entry, is_row, are_rows, IsCombination, IsEchelonBasis}
+use Rattle.linear_algebra.proofs.Sums.{combine, by_bool, same_or_other}
 use Rattle.linear_algebra.proofs.Spans.{Spans, span_zero, span_add, span_scale, span_row, span_as}
-use Rattle.linear_algebra.proofs.Lift.{AllIn, AreIn, row_of, rows_of, combine_value, combined_by, from_spans}
+use Rattle.linear_algebra.proofs.Lift.{AllIn, AreIn, row_of, rows_of, from_spans}
 use Rattle.linear_algebra.proofs.RowLists.{row_len, row_elems, rows_by_places, rows_in}
 use Rattle.linear_algebra.proofs.Dependent.{field_domain}
 use Rattle.flat_modules.specs.Flat.{shifted, lead_at, IsStandardBasis, IsOnlyCombination}
-use Rattle.flat_modules.proofs.Shift.{shift, powers, shift_past, shift_same}
+use Rattle.flat_modules.proofs.Shift.{powers}
 use Rattle.flat_modules.proofs.Lists.{flat_in, listed, longest, combination_value, shift_value}
 use Rattle.flat_modules.proofs.Tops.{HasTops, low_tops}
 use Rattle.flat_modules.proofs.Places.{power_top, powers_tops}
 use Rattle.flat_modules.proofs.Unique.{standard_places}
 use Rattle.flat_modules.proofs.OneBasis.{to_standard}
-use Rattle.euclid_theory.proofs.Sizes.{minus}
-use Rattle.euclid_theory.proofs.OreSizes.{Ores, ores}
-use Rattle.central_coords.specs.Coordinates.{coordinate}
-use Rattle.central_coords.proofs.Places.{at}
-use Rattle.central_coords.proofs.Raised.{letter, moves}
-use Rattle.central_coords.proofs.Blocks.{coordinate_past}
-use Rattle.morphism.specs.Homomorphism.{IsHomomorphism}
+use Rattle.central_coords.specs.Coordinates.{coordinate, coordinate_row}
+use Rattle.central_coords.proofs.Places.{Extension, Polys, scalars, degree_positive, coordinate_in, coordinate_past}
 use Rattle.hom_space.specs.Bounded.{IsBoundedList}
 use Rattle.hom_space.specs.Full.{IsFullList}
 use Rattle.hom_space.specs.steps.Reading.{AreReadRows}
-use Rattle.hom_space.specs.steps.System.{system_row}
 use Rattle.hom_space.specs.steps.Shifts.{shifted_row, shift_count, AreShifts}
-use Rattle.hom_space.proofs.Relations.{hom_map, IsSystem, short_past, relation_of, kernel_of, bounded_list}
-use Rattle.hom_space.proofs.SystemRows.{system_is, system_shape}
-use Rattle.hom_space.proofs.FlatRows.{word, word_at}
-use Rattle.hom_space.proofs.HomRows.{IsHomRow, steps, posw}
-use Rattle.hom_space.proofs.FullList.{canonical, rows_of_list, reads_rows, standard_rows}
+use Rattle.hom_space.proofs.HomRows.{IsRow, square, wide, short_past, hom_as, hom_combined, hom_shifted, echelon_as}
+use Rattle.hom_space.proofs.BoundedList.{bounded_list}
+use Rattle.hom_space.proofs.FullList.{rows_of_list, row_coords, reads_rows, standard_rows}
+use Rattle.hom_space.proofs.SystemRows.{values_shifted}
 
 -- how many products there are
-pub count_fits : (n d len e : ℕ) → 0 < n → e < shift_count n d len → len + e * n ≤ d + 1
-count_fits n d len e pos low =
-    let v : (e + 1) * n ≤ d + 1 + n - len = (le-div_iff_mul-le pos).0 (omega (arith, low)) in
-    let one : (e + 1) * n ≡ e * n + n = omega arith in
-    omega (arith, v, one, pos)
-
-fits_count : (n d len e : ℕ) → 0 < n → len + e * n ≤ d + 1 → e < shift_count n d len
-fits_count n d len e pos fits =
-    let one : (e + 1) * n ≡ e * n + n = omega arith in
-    let v : e + 1 ≤ (d + 1 + n - len) / n = (le-div_iff_mul-le pos).1 (omega (arith, fits, one)) in
-    omega (arith, v)
+product_fits : (n d len e : ℕ) → 0 < n → (e < shift_count n d len) ↔ (len + e * n ≤ d + 1)
+product_fits n d len e pos = (
+  λ low. let v : (e + 1) * n ≤ d + 1 + n - len = (le-div_iff_mul-le pos).0 (omega (arith, low)) in omega (arith, v, pos),
+  λ fits. let v : e + 1 ≤ (d + 1 + n - len) / n = (le-div_iff_mul-le pos).1 (omega (arith, fits)) in omega (arith, v),
+)
 
 -- a product of degree at most `d`, by coordinates
-fits_wide : (n d len e : ℕ) → len + e * n ≤ d + 1 → len * n + e * (n * n) ≤ (d + 1) * n
-fits_wide n d len e fits = let v : (len + e * n) * n ≤ (d + 1) * n = mul-le-mul_right n fits in omega (arith, v)
+low_product : (n d e len : ℕ) → len - 1 + e * (n * n) < (d + 1) * n → (b : ℕ) × (d ≡ b + e * n) × (len ≤ (b + 1) * n)
+low_product n d e len low =
+    let few : e * n < d + 1 = lt_of_mul-lt-mul_right n (omega (arith, low)) in
+    let whole : d ≡ d - e * n + e * n = omega (arith, few) in
+    let all : (d + 1) * n ≡ (d - e * n + e * n + 1) * n = ap (λ x. (x + 1) * n) whole in
+    (d - e * n, whole, omega (arith, all, low))
 
-few_powers : (n d e : ℕ) → e * (n * n) < (d + 1) * n → e * n ≤ d
-few_powers n d e low =
-    ⊎_elim
-    (λ (m : e * n < d + 1). omega arith)
-    (λ (m : d + 1 ≤ e * n). let v : (d + 1) * n ≤ e * n * n = mul-le-mul_right n m in absurd (omega (arith, v, low)))
-    (cases_lt (e * n) (d + 1))
-
-wide_low : (n b e len : ℕ) → len + e * (n * n) ≤ (b + e * n + 1) * n → len ≤ (b + 1) * n
-wide_low n b e len m = omega arith
-
--- a combination whose terms that aren't zero are combinations
+-- a combination whose terms are combinations
 span_terms : {M : Type 0} (R : RingOn M) (n m : ℕ) (a b : ℕ → ℕ → M) (c : ℕ → M) → ((i : ℕ) → i < n → Spans R m b (λ j. R.mul (c i) (a i j))) → Spans R m b (combine R n c a)
 span_terms R zero m a b c h = span_zero R m b _ (λ j. refl)
 span_terms R (suc n) m a b c h = span_add R m b _ _ (span_terms R n m a b c (λ i l. h i (omega arith))) (h n (omega arith))
 
--- a combination of relations is one
-module _ {E : Type 0} (r : RingOps E) (inv : E → Option E) (field : IsField r inv) (rows sums : List (List E)) (ri : AllIn r (entry r rows)) (si : AllIn r (entry r sums)) where
-  abbrev K : RingOn (Element r)
-  K = elements field.ring
+module _ {E B : Type 0} (r : RingOps E) (base : RingOps B) (f : FrobOps E B) (d : ℕ) where
+  -- zeros, and then coordinates
+  pub shifted_parts : (e : ℕ) (u : List E) → e * f.degree ≤ d + 1
+      → first_values (e * f.degree * f.degree) (λ i. base.zero) ++ coordinate_row r f ((d + 1 - e * f.degree) * f.degree) u ≡ shifted_row r base f d u e
+  shifted_parts e u fits =
+      let n = f.degree in
+      let b = d + 1 - e * n in
+      let whole : (d + 1) * n ≡ (b + e * n) * n = ap (λ m. m * n) (omega (arith, fits)) in
+      let zeros : e * n * n ≡ e * (n * n) = omega arith in
+      let size : e * (n * n) + b * n ≡ (d + 1) * n = omega (arith, whole) in
+      ap (λ m. first_values m (λ i. base.zero) ++ first_values (b * n) (coordinate r f u)) zeros ∙ values_shifted base (e * (n * n)) (b * n) (coordinate r f u)
+      ∙ ap (λ m. first_values m (shifted base (e * (n * n)) (coordinate r f u))) size
 
-  relation_sum : ((m : ℕ) → m < length sums → IsRelation r rows (row_at sums m)) → (x : List E) → IsCombination r sums x → IsRelation r rows x
-  relation_sum all x s j =
-      let n = length rows in
-      let m = length sums in
-      let by : ℕ → Element r = λ i. (s.by i, s.elems i) in
-      let terms = rows_of r (entry r sums) si in
-      let system = rows_of r (entry r rows) ri in
-      combined_by r field.ring n (coeff r x) (λ i. (combine K m by terms i).0) (entry r rows) j (λ i low. s.is i ∙ sym (combine_value r field.ring m by terms i))
-      ∙ sym (combine_value r field.ring n (combine K m by terms) system j)
-      ∙ ap (λ y. y.0)
-      (product_assoc K n m by terms system j
-      ∙ total_zero K m _ (λ i low. ap (K.mul (by i)) (same_element r _ K.zero (combine_value r field.ring n (terms i) system j ∙ all i low j)) ∙ mul_zero K (by i)))
+  -- the rows of one more member
+  pub more_shifts : (i : ℕ) (list : List (List E)) (rows new : List (List B)) → AreShifts r base f d i list rows
+      → new ≡ rows ++ first_values (shift_count f.degree d (length (row_at list i))) (shifted_row r base f d (row_at list i)) → AreShifts r base f d (i + 1) list new
+  more_shifts i list rows new h e =
+      let count = shift_count f.degree d (length (row_at list i)) in
+      let made = shifted_row r base f d (row_at list i) in
+      let more = first_values count made in
+      let long : length new ≡ length rows + count = ap length e ∙ length-append rows more ∙ ap (λ m. length rows + m) (length-first_values count made) in
+      let old : (m : ℕ) → m < length rows → row_at new m ≡ row_at rows m = λ m low. ap (λ v. row_at v m) e ∙ get_or_append_left rows more [] m low in
+      let fresh : (j : ℕ) → j < count → row_at new (length rows + j) ≡ made j = λ j low.
+      ap (λ v. row_at v (length rows + j)) e ∙ get_or-append-add rows more j [] ∙ at-first_values count made j [] low in
+      record {
+        each = λ m low.
+            ⊎_elim
+            (λ (before : m < length rows). let s = h.each m before in (s.0, s.1, omega (arith, s.2), s.3, old m before ∙ s.4))
+            (λ (after : length rows ≤ m).
+            let j = m - length rows in
+            let place : length rows + j ≡ m = omega (arith, after) in
+            let here : j < count = omega (arith, low, long, after) in
+            (i, j, omega arith, here, ap (row_at new) (sym place) ∙ fresh j here))
+            (cases_lt m (length rows));
+        all = λ j t low fits.
+            elim (same_or_other j i) [
+              | inl q ↦
+                  let here : t < count = subst (λ v. t < shift_count f.degree d (length (row_at list v))) q fits in
+                  (length rows + t, omega (arith, long, here), fresh t here ∙ ap (λ v. shifted_row r base f d (row_at list v) t) (sym q))
+              | inr ne ↦
+                  let s = h.all j t (omega (arith, low, ne)) fits in
+                  let inside = s.1 in
+                  (s.0, omega (arith, long, inside), old s.0 inside ∙ s.2)
+            ];
+      }
 
-module _ {E B : Type 0} (r : RingOps E) (inv : E → Option E) (base : RingOps B) (base_inv : B → Option B) (f : FrobOps E B) (k : IsField r inv) (kb : IsField base base_inv) (l : IsFrobField r base f)
-    (phi psi : List E) (cp : is_canonical r phi ≡ true) (cs : is_canonical r psi ≡ true) (full : List (List E)) (p : IsFullList r base f phi psi full) (d : ℕ) where
-  abbrev T : Type 0
-  T = Ores r inv base f k l
-
-  abbrev S : RingOn T
-  S = ores r inv base f k l
-
+module _ {E B : Type 0} {r : RingOps E} {base : RingOps B} {f : FrobOps E B} (o : Extension r base f) (phi psi : Polys o) (full : List (List E)) (p : IsFullList r base f phi.0 psi.0 full) (d : ℕ) where
   abbrev N : RingOn (Element base)
-  N = elements kb.ring
-
-  abbrev C : ℕ → T → Element base
-  C = at r inv base base_inv f k kb l
-
-  abbrev Z : ℕ → T
-  Z = letter r inv base base_inv f k kb l
-
-  abbrev L : T → T
-  L = hom_map S (phi, cp) (psi, cs)
-
-  abbrev n : ℕ
-  n = f.degree
+  N = scalars o
 
   abbrev w : ℕ
   w = (d + 1) * f.degree
 
-  abbrev past_n : ℕ
-  past_n = f.degree * f.degree
-
-  pos : 0 < f.degree
-  pos = let some = l.degree_pos in omega (arith, some)
-
-  abbrev member : ℕ → T
-  member i = (row_at full i, canonical r inv base base_inv f k kb l phi psi cp cs full p i)
-
-  abbrev moved : ℕ → ℕ → T
-  moved i e = S.mul (Z e) (member i)
-
-  member_gone : (i : ℕ) → i < length full → L (member i) ≡ S.zero
-  member_gone i m =
-      let u = member i in
-      let hom : S.mul u (phi, cp) ≡ S.mul (psi, cs) u = same_element (twisted_ops r f.frob) (S.mul u (phi, cp)) (S.mul (psi, cs) u) (p.members i m).commutes in
-      ap (λ a. minus S a (S.mul (psi, cs) u)) hom ∙ S.add_neg (S.mul (psi, cs) u)
-
-  moved_gone : (i e : ℕ) → i < length full → L (moved i e) ≡ S.zero
-  moved_gone i e m =
-      (steps r inv base base_inv f k kb l phi psi cp cs).passes e (member i) ∙ ap (S.mul (Z e)) (member_gone i m) ∙ mul_zero S (Z e)
-
-  moved_past : (i e : ℕ) → length (row_at full i) + e * f.degree ≤ d + 1 → (j : ℕ) → w ≤ j → C j (moved i e) ≡ N.zero
-  moved_past i e fits j far =
-      let wide = fits_wide f.degree d (length (row_at full i)) e fits in
-      moves r inv base base_inv f k kb l e j (member i)
-      ∙ shift_past N (e * past_n) (λ j. C j (member i)) j (omega (arith, wide, far))
-      ∙ same_element base _ _ (coordinate_past r inv base base_inv f k kb l (row_at full i) (j - e * past_n) (omega (arith, wide, far)))
-
-  moved_short : (i e : ℕ) → length (row_at full i) + e * f.degree ≤ d + 1 → length (moved i e).0 ≤ d + 1
-  moved_short i e fits = short_past r inv base base_inv f k kb l phi psi cp cs d (moved i e) (moved_past i e fits)
+  abbrev raised : ℕ → ℕ → ℕ → B
+  raised i e = shifted base (e * square o) (coordinate r f (row_at full i))
 
   abbrev row : ℕ → ℕ → List B
   row i e = shifted_row r base f d (row_at full i) e
 
-  moved_value : (i e j : ℕ) → (C j (moved i e)).0 ≡ shifted base (e * past_n) (coordinate r f (row_at full i)) j
-  moved_value i e j =
-      ap (λ x. x.0) (moves r inv base base_inv f k kb l e j (member i)) ∙ shift_value base kb.ring (e * past_n) (λ j. C j (member i)) j
+  elems : (i : ℕ) → i < length full → are_elems r (row_at full i) ≡ true
+  elems i m = (and_parts (are_elems r (row_at full i)) _ (p.members i m).canonical).0
 
-  row_value : (i e : ℕ) → length (row_at full i) + e * f.degree ≤ d + 1 → (j : ℕ) → coeff base (row i e) j ≡ (C j (moved i e)).0
+  row_value : (i e : ℕ) → length (row_at full i) + e * f.degree ≤ d + 1 → (j : ℕ) → coeff base (row i e) j ≡ raised i e j
   row_value i e fits j =
-      let value = shifted base (e * past_n) (coordinate r f (row_at full i)) in
-      ⊎_elim
-      (λ (low : j < w). at-first_values w value j base.zero low ∙ sym (moved_value i e j))
-      (λ (high : w ≤ j).
-      let over : length (row i e) ≤ j = omega (arith, length-first_values w value, high) in
-      coeff_past base (row i e) j over ∙ sym (ap (λ x. x.0) (moved_past i e fits j high)))
-      (cases_lt j w)
+      let many : (length (row_at full i) + e * f.degree) * f.degree ≤ w = mul-le-mul_right f.degree fits in
+      coeff-first_values base w (raised i e)
+      (λ t far.
+      ap (λ b. cond b base.zero (coordinate r f (row_at full i) (t - e * square o))) (le-ltb t (e * square o) (omega (arith, many, far)))
+      ∙ coordinate_past o (row_at full i) (t - e * square o) (omega (arith, many, far)))
+      j
 
-  row_shape : (i e : ℕ) → is_row base w (row i e) ≡ true
-  row_shape i e =
-      let value = shifted base (e * past_n) (coordinate r f (row_at full i)) in
-      and_from _ _ (eq-eqb _ _ (length-first_values w value)) (elems-first_values base w value (λ j m. subst (λ x. Rattle.ring_core.specs.Ring.IsElem base x) (moved_value i e j) (C j (moved i e)).1))
+  row_shape : (i e : ℕ) → i < length full → is_row base w (row i e) ≡ true
+  row_shape i e m =
+      and_from _ _ (eq-eqb _ _ (length-first_values w (raised i e)))
+      (elems-first_values base w (raised i e)
+      (λ j l.
+      cond_both (nat_lt j (e * square o)) base.zero (coordinate r f (row_at full i) (j - e * square o)) (IsElem base) (λ b. o.base_field.ring.closed.zero_in)
+      (λ b. coordinate_in o (row_at full i) (elems i m) (j - e * square o))))
 
   module _ (sums : List (List B)) (h : AreShifts r base f d (length full) full sums) where
     pub shape : are_rows base w sums ≡ true
-    shape = rows_by_places base w sums (λ m low. let s = h.each m low in ap (is_row base w) s.4 ∙ row_shape s.0 s.1)
+    shape = rows_by_places base w sums (λ m low. let s = h.each m low in ap (is_row base w) s.4 ∙ row_shape s.0 s.1 s.2)
 
     si : AllIn base (entry base sums)
-    si = rows_in base kb.ring.closed.zero_in w sums shape
+    si = rows_in base o.base_field.ring.closed.zero_in w sums shape
 
-    abbrev most : ℕ
-    most = d + max (length phi) (length psi)
+    abbrev made : ℕ → ℕ → Element base
+    made = rows_of base (entry base sums) si
 
-    abbrev rows : List (List B)
-    rows = first_values w (system_row r base f phi psi most)
-
-    sys : IsSystem r inv base base_inv f k kb l phi psi cp cs d rows
-    sys = system_is r inv base base_inv f k kb l phi psi cp cs d rows refl
-
-    ri : AllIn base (entry base rows)
-    ri = rows_in base kb.ring.closed.zero_in (most * f.degree) rows (system_shape r inv base base_inv f k kb l phi psi cp cs d rows refl)
-
-    each_relation : (m : ℕ) → m < length sums → IsRelation base rows (row_at sums m)
-    each_relation m low =
+    each_hom : (m : ℕ) → m < length sums → IsRow o phi psi (entry base sums m)
+    each_hom m low =
         let s = h.each m low in
         let i = s.0 in
         let e = s.1 in
-        let fits = count_fits f.degree d (length (row_at full i)) e pos s.3 in
-        relation_of r inv base base_inv f k kb l phi psi cp cs d rows sys (moved i e) (moved_short i e fits) (moved_gone i e s.2) (row_at sums m)
-        (λ j t. ap (λ x. coeff base x j) s.4 ∙ row_value i e fits j)
+        let fits = (product_fits f.degree d (length (row_at full i)) e (degree_positive o)).0 s.3 in
+        hom_as r f phi.0 psi.0 (raised i e) (entry base sums m) (λ j. sym (ap (λ x. coeff base x j) s.4 ∙ row_value i e fits j))
+        (hom_shifted o phi psi e (coordinate r f (row_at full i)) (record { u = row_at full i; hom = p.members i s.2; coords = λ t. refl }))
 
     -- the flat rows of the members
     abbrev flat : List (List B)
-    flat = rows_of_list r inv base base_inv f k kb l phi psi cp cs full p
+    flat = rows_of_list o phi psi full p
 
-    basis : IsStandardBasis base past_n (IsHomRow r base f phi psi) flat
-    basis = standard_rows r inv base base_inv f k kb l phi psi cp cs full p
+    basis : IsStandardBasis base (square o) (λ x. IsRow o phi psi (coeff base x)) flat
+    basis = standard_rows o phi psi full p
 
     abbrev count : ℕ
     count = length flat
 
-    same_count : length full ≡ count
-    same_count = (reads_rows r inv base base_inv f k kb l phi psi cp cs full p).count
-
     abbrev V : ℕ → ℕ → Element base
-    V = rows_of base (entry base flat) (flat_in base kb.ring flat basis.basis.shape)
+    V = rows_of base (entry base flat) (flat_in base o.base_field.ring flat basis.basis.shape)
 
     abbrev all_powers : ℕ → ℕ → Element base
-    all_powers = powers N count past_n V
+    all_powers = powers N count (square o) V
 
     abbrev top : ℕ → ℕ
-    top = power_top count past_n (lead_at flat)
+    top = power_top count (square o) (lead_at flat)
 
     tops : (m : ℕ) → HasTops N m (λ i. nat_lt (i % count) count) top all_powers
     tops m =
-        powers_tops N count past_n (λ i. nat_lt i count) (lead_at flat) V (posw r inv base base_inv f k kb l phi psi cp cs)
-        (standard_places N (field_domain base base_inv kb) past_n (posw r inv base base_inv f k kb l phi psi cp cs) count (lead_at flat) V (to_standard base base_inv kb past_n flat basis.basis.shape basis.standard)) m
+        powers_tops N count (square o) (λ i. nat_lt i count) (lead_at flat) V (wide o)
+        (standard_places N (field_domain base o.base_inv o.base_field) (square o) (wide o) count (lead_at flat) V
+        (to_standard base o.base_inv o.base_field (square o) flat basis.basis.shape basis.standard)) m
 
     -- a power of tau^n whose top is low is one of those that were taken
-    top_fits : (i e : ℕ) → i < length full → lead_at flat i + e * past_n < w → length (row_at full i) + e * f.degree ≤ d + 1
+    top_fits : (i e : ℕ) → i < length full → lead_at flat i + e * square o < w → length (row_at full i) + e * f.degree ≤ d + 1
     top_fits i e m low =
-        let some : e * past_n < w = omega (arith, low) in
-        let few : e * f.degree ≤ d = few_powers f.degree d e some in
-        let b = d - e * f.degree in
-        let whole : d ≡ b + e * f.degree = omega (arith, few) in
-        let wide : length (row_at flat i) + e * past_n ≤ (d + 1) * f.degree = omega (arith, low) in
-        let room : length (row_at flat i) ≤ (b + 1) * f.degree = wide_low f.degree b e (length (row_at flat i)) (subst (λ x. length (row_at flat i) + e * past_n ≤ (x + 1) * f.degree) whole wide) in
-        let few_coeffs : length (row_at full i) ≤ b + 1 =
-        short_past r inv base base_inv f k kb l phi psi cp cs b (member i)
-        (λ j far. same_element base _ _ (((reads_rows r inv base base_inv f k kb l phi psi cp cs full p).each i m).coords j ∙ coeff_past base (row_at flat i) j (omega (arith, room, far)))) in
-        omega (arith, few_coeffs, whole)
+        let s = low_product f.degree d e (length (row_at flat i)) low in
+        let room = s.2 in
+        let few : length (row_at full i) ≤ s.0 + 1 =
+        short_past o (row_at full i, (p.members i m).canonical) s.0 (λ j far. row_coords o phi psi full p i m j ∙ coeff_past base (row_at flat i) j (omega (arith, room, far))) in
+        omega (arith, few, s.1)
 
-    -- it is the row of the coordinates there
-    power_value : (i e : ℕ) → i < length full → length (row_at full i) + e * f.degree ≤ d + 1 → (t : ℕ) → (shift N (e * past_n) (V i) t).0 ≡ coeff base (row i e) t
-    power_value i e m fits t =
-        ap (λ x. x.0)
-        (shift_same N (e * past_n) (V i) (λ j. C j (member i)) t (λ j. same_element base _ _ (sym (((reads_rows r inv base base_inv f k kb l phi psi cp cs full p).each i m).coords j)))
-        ∙ sym (moves r inv base base_inv f k kb l e t (member i)))
-        ∙ sym (row_value i e fits t)
-
-    low_power : (q : ℕ) → q % count < count → top q < w → Spans N (length sums) (rows_of base (entry base sums) si) (all_powers q)
+    low_power : (q : ℕ) → q % count < count → top q < w → Spans N (length sums) made (all_powers q)
     low_power q inside low =
         let i = q % count in
         let e = q / count in
-        let m : i < length full = omega (arith, inside, same_count) in
+        let m : i < length full = omega (arith, inside, (reads_rows o phi psi full p).count) in
         let fits = top_fits i e m (omega (arith, low)) in
-        let s = h.all i e m (fits_count f.degree d (length (row_at full i)) e pos fits) in
-        span_as N (length sums) _ (rows_of base (entry base sums) si s.0) (all_powers q)
-        (λ t. same_element base _ _ (power_value i e m fits t ∙ sym (ap (λ x. coeff base x t) s.2)))
-        (span_row N (length sums) _ s.0 s.1)
+        let s = h.all i e m ((product_fits f.degree d (length (row_at full i)) e (degree_positive o)).1 fits) in
+        span_as N (length sums) made (made s.0) (all_powers q)
+        (λ t.
+        same_element base _ _
+        (shift_value base o.base_field.ring (e * square o) (V i) t ∙ ap (cond (nat_lt t (e * square o)) base.zero) (sym (row_coords o phi psi full p i m (t - e * square o)))
+        ∙ sym (ap (λ x. coeff base x t) s.2 ∙ row_value i e fits t)))
+        (span_row N (length sums) made s.0 s.1)
 
-    -- a relation is a combination of the rows
-    module _ (x : List B) (xs : is_row base w x ≡ true) (relation : IsRelation base rows x) where
+    -- the row of a homomorphism is a combination of the rows
+    module _ (x : List B) (xs : is_row base w x ≡ true) (hom : IsRow o phi psi (coeff base x)) where
       ex : are_elems base x ≡ true
       ex = row_elems base w x xs
 
       abbrev y : List B
       y = trim base x
 
-      cy : is_canonical base y ≡ true
-      cy = canonical-trim base x ex
-
       same_y : (j : ℕ) → coeff base y j ≡ coeff base x j
-      same_y j = coeff-trim base kb.ring.closed.zero_in kb.ring.equal x ex j
+      same_y j = coeff-trim base o.base_field.ring.closed.zero_in o.base_field.ring.equal x ex j
 
-      x_past : (j : ℕ) → w ≤ j → coeff base x j ≡ base.zero
-      x_past j far = coeff_past base x j (omega (arith, row_len base w x xs, far))
-
-      abbrev u : T
-      u = word r inv base base_inv f k kb l y cy
-
-      u_value : (j : ℕ) → (C j u).0 ≡ coeff base x j
-      u_value j = word_at r inv base base_inv f k kb l y cy j ∙ same_y j
-
-      u_hom : IsHomomorphism r f.frob phi psi u.0
-      u_hom =
-          let short = short_past r inv base base_inv f k kb l phi psi cp cs d u (λ j far. same_element base _ _ (u_value j ∙ x_past j far)) in
-          let gone = kernel_of r inv base base_inv f k kb l phi psi cp cs d rows sys u short x (λ j m. sym (u_value j)) relation in
-          record { canonical = u.1; commutes = ap (λ z. z.0) (minus_same S (S.mul u (phi, cp)) (S.mul (psi, cs) u) gone) }
-
-      only : IsOnlyCombination base past_n flat y
-      only = basis.basis.spans y cy (record { u = u.0; hom = u_hom; coords = λ t. word_at r inv base base_inv f k kb l y cy t })
+      only : IsOnlyCombination base (square o) flat y
+      only = basis.basis.spans y (canonical-trim base x ex) (hom_as r f phi.0 psi.0 (coeff base x) (coeff base y) (λ t. sym (same_y t)) hom)
 
       abbrev c : ℕ → Element base
-      c = listed base kb.ring past_n flat only.by basis.basis.shape only.polys
+      c = listed base o.base_field.ring (square o) flat only.by basis.basis.shape only.polys
 
       abbrev bound : ℕ
       bound = (longest base only.by).0 * count
 
       sum_value : (t : ℕ) → (combine N bound c all_powers t).0 ≡ coeff base x t
-      sum_value t = combination_value base kb.ring past_n flat only.by basis.basis.shape only.polys t ∙ sym (only.is t) ∙ same_y t
+      sum_value t = combination_value base o.base_field.ring (square o) flat only.by basis.basis.shape only.polys t ∙ sym (only.is t) ∙ same_y t
 
       -- no term has a higher lead
       high_gone : (q : ℕ) → q < bound → nat_lt (q % count) count ≡ true → w ≤ top q → c q ≡ N.zero
-      high_gone = low_tops N (field_domain base base_inv kb) bound _ top all_powers (tops bound) c w (λ t far. same_element base _ _ (sum_value t ∙ x_past t far))
+      high_gone =
+          low_tops N (field_domain base o.base_inv o.base_field) bound _ top all_powers (tops bound) c w
+          (λ t far. same_element base _ _ (sum_value t ∙ coeff_past base x t (omega (arith, row_len base w x xs, far))))
 
-      term : (q : ℕ) → q < bound → Spans N (length sums) (rows_of base (entry base sums) si) (λ t. N.mul (c q) (all_powers q t))
+      term : (q : ℕ) → q < bound → Spans N (length sums) made (λ t. N.mul (c q) (all_powers q t))
       term q m =
           by_bool (nat_lt (q % count) count)
           (λ v. by_bool (nat_lt (top q) w)
-          (λ low. span_scale N (length sums) _ (c q) (all_powers q) (low_power q (ltb-true (q % count) count v) (ltb-true (top q) w low)))
-          (λ far. span_zero N (length sums) _ _ (λ t. ap (λ a. N.mul a (all_powers q t)) (high_gone q m v (ltb-false (top q) w far)) ∙ zero_mul N _)))
-          (λ v. span_zero N (length sums) _ _ (λ t. ap (N.mul (c q)) ((tops bound).absent q t m v) ∙ mul_zero N (c q)))
+          (λ low. span_scale N (length sums) made (c q) (all_powers q) (low_power q (ltb-true (q % count) count v) (ltb-true (top q) w low)))
+          (λ far. span_zero N (length sums) made _ (λ t. ap (λ a. N.mul a (all_powers q t)) (high_gone q m v (ltb-false (top q) w far)) ∙ zero_mul N _)))
+          (λ v. span_zero N (length sums) made _ (λ t. ap (N.mul (c q)) ((tops bound).absent q t m v) ∙ mul_zero N (c q)))
 
-      xi : AreIn base (coeff base x)
-      xi j = elem_read base x kb.ring.closed.zero_in ex j
-
-      combined : IsCombination base sums x
-      combined =
-          from_spans base kb.ring (length sums) (entry base sums) si (coeff base x) xi
-          (span_as N (length sums) _ (combine N bound c all_powers) (row_of base (coeff base x) xi) (λ t. same_element base _ _ (sym (sum_value t)))
-          (span_terms N bound (length sums) all_powers _ c term))
+      combined_hom : IsCombination base sums x
+      combined_hom =
+          let xi : AreIn base (coeff base x) = elem_read base x o.base_field.ring.closed.zero_in ex in
+          from_spans base o.base_field.ring (length sums) (entry base sums) si (coeff base x) xi
+          (span_as N (length sums) made (combine N bound c all_powers) (row_of base (coeff base x) xi) (λ t. same_element base _ _ (sym (sum_value t)))
+          (span_terms N bound (length sums) all_powers made c term))
 
     -- The echelon basis of the rows, read as twisted polynomials, is the bounded list.
-    pub bounded_of_shifts : (echelon : List (List B)) (list : List (List E)) → IsEchelonBasis base w (IsCombination base sums) echelon → AreReadRows r base f echelon list → IsBoundedList r base f phi psi d list
-    bounded_of_shifts echelon list ech reads =
-        bounded_list r inv base base_inv f k kb l phi psi cp cs d rows echelon list sys
-        (record {
-          shape = ech.shape;
-          echelon = ech.echelon;
-          spans = λ x xs. let s = ech.spans x xs in (
-            λ relation. s.0 (combined x xs relation),
-            λ combination. relation_sum base base_inv kb rows sums ri si each_relation x (s.1 combination),
-          );
-        })
+    pub bounded_of_shifts : (width : ℕ) (echelon : List (List B)) (list : List (List E)) → width ≡ w → IsEchelonBasis base width (IsCombination base sums) echelon → AreReadRows r base f echelon list
+        → IsBoundedList r base f phi.0 psi.0 d list
+    bounded_of_shifts width echelon list is found reads =
+        bounded_list o phi psi d echelon list
+        (echelon_as o w (λ x. IsRow o phi psi (coeff base x)) (IsCombination base sums) echelon
+        (λ x xs. (
+          combined_hom x xs,
+          λ s.
+              hom_as r f phi.0 psi.0 (combined base (length sums) s.by (entry base sums)) (coeff base x) (λ j. sym (s.is j))
+              (hom_combined o phi psi (length sums) s.by (entry base sums) s.elems each_hom),
+        ))
+        (subst (λ n. IsEchelonBasis base n (IsCombination base sums) echelon) is found))
         reads

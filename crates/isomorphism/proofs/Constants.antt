@@ -1,16 +1,16 @@
 -- The members of the bounded list for the degree 0 are constants.
-use Rattle.std.proofs.Common.{◌≡◌, ℕ, ◌+◌, ◌-◌, ◌/◌, ◌%◌, ◌<◌, ◌≤◌, true, Option, None, Some, MatchOption, List, [], ◌∷◌, length, sym, ◌∙◌, ap, subst, ⊎_elim, arith}
+use Rattle.std.proofs.Common.{◌≡◌, ℕ, ◌+◌, ◌-◌, ◌/◌, ◌%◌, ◌<◌, ◌≤◌, List, [], ◌∷◌, length, sym, ◌∙◌, ap, subst, ⊎_elim, arith}
 use Rattle.std.proofs.lemmas.Bool.{and_parts, cases_lt}
 use Rattle.std.proofs.lemmas.List.{nil_from_length}
 use Rattle.ring_core.specs.Ring.{RingOps}
-use Rattle.ring_core.specs.Field.{IsField, FrobOps, IsFrobField}
+use Rattle.ring_core.specs.Field.{FrobOps}
 use Rattle.ring_core.specs.Coeffs.{coeff, sum_below, are_elems}
 use Rattle.ring_core.specs.Twisted.{twisted_ops, list_mul}
 use Rattle.ring_core.specs.Monomial.{constant}
 use Rattle.ring_core.proofs.Coefficients.{elem_read}
 use Rattle.ring_core.proofs.Degrees.{not_empty, top_nonzero}
 use Rattle.linear_algebra.specs.Linear.{row_at}
-use Rattle.central_coords.proofs.Places.{coord_zero, place_low}
+use Rattle.central_coords.proofs.Places.{Extension, coord_zero, place_low}
 use Rattle.morphism.specs.Homomorphism.{IsHomomorphism}
 use Rattle.hom_space.specs.Bounded.{IsMember, IsBoundedList}
 use Rattle.isomorphism.specs.Isomorphism.{IsFirstIsomorphism, HasNoIsomorphism}
@@ -20,8 +20,7 @@ single : {E : Type 0} (r : RingOps E) (u : List E) → length u ≡ 1 → u ≡ 
 single r [] e = absurd (omega (arith, e))
 single r (x ∷ xs) e = ap (λ t. x ∷ t) (nil_from_length xs (omega (arith, e)))
 
-module _ {E B : Type 0} (r : RingOps E) (inv : E → Option E) (base : RingOps B) (base_inv : B → Option B) (f : FrobOps E B) (k : IsField r inv) (kb : IsField base base_inv) (l : IsFrobField r base f)
-    (phi psi : List E) (list : List (List E)) (p : IsBoundedList r base f phi psi 0 list) where
+module _ {E B : Type 0} {r : RingOps E} {base : RingOps B} {f : FrobOps E B} (o : Extension r base f) (phi psi : List E) (list : List (List E)) (p : IsBoundedList r base f phi psi 0 list) where
   -- no members, no isomorphism
   pub none : length list ≡ 0 → HasNoIsomorphism r f phi psi
   none empty c ci nonzero h =
@@ -47,7 +46,7 @@ module _ {E B : Type 0} (r : RingOps E) (inv : E → Option E) (base : RingOps B
         absurd
         ((p.leads 0 some).nonzero
         (ap (λ v. f.coord (coeff r v (place / f.degree)) (place % f.degree)) (nil_from_length u (omega (arith, empty)))
-        ∙ coord_zero r inv base base_inv f k kb l (place % f.degree) (place_low r inv base base_inv f k kb l place))))
+        ∙ coord_zero o (place % f.degree) (place_low o place))))
         (cases_lt 0 (length u))
 
     pub first : IsFirstIsomorphism r base f phi psi (coeff r u 0)
@@ -58,25 +57,11 @@ module _ {E B : Type 0} (r : RingOps E) (inv : E → Option E) (base : RingOps B
         let parts = and_parts (are_elems r u) _ m.hom.canonical in
         let top : length u - 1 ≡ 0 = omega (arith, one) in
         record {
-          elem = elem_read r u k.ring.closed.zero_in parts.0 0;
-          nonzero = λ e. top_nonzero r k.ring.closed.zero_in k.ring.equal u parts.1 (not_empty u long) (ap (coeff r u) top ∙ e);
+          elem = elem_read r u o.field.ring.closed.zero_in parts.0 0;
+          nonzero = λ e. top_nonzero r o.field.ring.closed.zero_in o.field.ring.equal u parts.1 (not_empty u long) (ap (coeff r u) top ∙ e);
           hom = subst (IsHomomorphism r f.frob phi psi) is m.hom;
           list = list;
           bounded = p;
           some = some;
           first = is;
         }
-
-  -- what is read of the list, seen as a slice `v`
-  pub elems_of : (v : List (List E)) → v ≡ list → (i : ℕ) → i < length v → are_elems r (row_at v i) ≡ true
-  elems_of v same i low =
-      let in_list : i < length list = subst (λ w. i < length w) same low in
-      ap (λ w. are_elems r (row_at w i)) same ∙ (and_parts (are_elems r (row_at list i)) _ (p.members i in_list).hom.canonical).0
-
-  answer : (o : Option E) → MatchOption o (length list ≡ 0) (λ c. (0 < length list) × (c ≡ coeff r (row_at list 0) 0)) → MatchOption o (HasNoIsomorphism r f phi psi) (IsFirstIsomorphism r base f phi psi)
-  answer None h = none h
-  answer (Some c) h = subst (IsFirstIsomorphism r base f phi psi) (sym h.1) (first h.0)
-
-  pub answer_of : (v : List (List E)) → v ≡ list → (o : Option E) → MatchOption o (length v ≡ 0) (λ c. (0 < length v) × (c ≡ coeff r (row_at v 0) 0))
-      → MatchOption o (HasNoIsomorphism r f phi psi) (IsFirstIsomorphism r base f phi psi)
-  answer_of v same o h = answer o (subst (λ w. MatchOption o (length w ≡ 0) (λ c. (0 < length w) × (c ≡ coeff r (row_at w 0) 0))) same h)

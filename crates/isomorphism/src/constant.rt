@@ -1,7 +1,6 @@
-ghost use Rattle.std.specs.Prelude.{◌≡◌, ℕ, ◌<◌, IfOk, MatchOption, length, true};
-ghost use Rattle.ring_core.specs.Coeffs.{coeff, are_elems};
-ghost use Rattle.linear_algebra.specs.Linear.{row_at};
+ghost use Rattle.std.specs.Prelude.{◌≡◌, IfOk, MatchOption};
 ghost use Rattle.drinfeld_mod.specs.Module.{IsModule, constant_of};
+ghost use Rattle.hom_space.specs.Bounded.{IsBoundedList};
 ghost use Rattle.hom_space.specs.Full.{IsFullList};
 ghost use Rattle.isomorphism.specs.Isomorphism.{IsFirstIsomorphism, HasNoIsomorphism};
 
@@ -9,13 +8,20 @@ use drinfeld_mod::Module;
 use hom_space::{bounded, bounded_from};
 use ore_poly::Ore;
 use ring_core::lists::coeff_at;
-use ring_core::{E, Field, FrobField, NoMemory};
+use ring_core::{E, FrobField, NoMemory};
 use std::alloc::Global;
 
-/// The constant coefficient of the first member of the list; None exactly where it has no members.
-fn first_constant<K: Field>(k: &K, list: &[Ore<E<K>>]) -> Option<E<K>>
-    requires { (i : ℕ) → i < length list.now → are_elems (K.ops k.now) (row_at list.now i) ≡ true }
-    ensures { MatchOption result (length list.now ≡ 0) (λ c. (0 < length list.now) × (c ≡ coeff (K.ops k.now) (row_at list.now 0) 0)) }
+/// The constant coefficient of the first member of the bounded list for the degree 0, where `phi` and `psi` are the
+/// modules; None exactly where it has no members.
+fn first_constant<K: FrobField>(
+    k: &K,
+    phi: &Module<E<K>>,
+    psi: &Module<E<K>>,
+    list: &[Ore<E<K>>],
+) -> Option<E<K>>
+    requires { IsBoundedList (K.ops k.now) (K.Base.ops (K.base_of k.now)) (K.frob_ops k.now) phi.now psi.now 0 list.now }
+    ensures { let r = K.ops k.now in let f = K.frob_ops k.now in
+        MatchOption result (HasNoIsomorphism r f phi.now psi.now) (IsFirstIsomorphism r (K.Base.ops (K.base_of k.now)) f phi.now psi.now) }
 {
     if list.len() == 0 {
         return None;
@@ -38,7 +44,7 @@ pub fn isomorphic<K: FrobField>(
         IfOk result (λ o. MatchOption o (HasNoIsomorphism r f phi.now psi.now) (IsFirstIsomorphism r (K.Base.ops (K.base_of k.now)) f phi.now psi.now)) }
 {
     let list = bounded(alloc, k, phi, psi, 0)?;
-    Ok(first_constant(k, &list))
+    Ok(first_constant(k, phi, psi, &list))
 }
 
 /// What `isomorphic` gives, made from the full list of the homomorphisms from `phi` to `psi` in place of a linear system.
@@ -58,5 +64,5 @@ pub fn isomorphic_from<K: FrobField>(
         IfOk result (λ o. MatchOption o (HasNoIsomorphism r f phi.now psi.now) (IsFirstIsomorphism r (K.Base.ops (K.base_of k.now)) f phi.now psi.now)) }
 {
     let list = bounded_from(alloc, k, phi, psi, full, 0)?;
-    Ok(first_constant(k, &list))
+    Ok(first_constant(k, phi, psi, &list))
 }

@@ -1,7 +1,6 @@
 -- The first kept list of a pair of modules.
-use Rattle.std.proofs.Common.{◌≡◌, ℕ, suc, ◌+◌, ◌<◌, ◌≤◌, ◌&&◌, ◌||◌, Bool, true, false, Option, List, [], ◌∷◌, length, drop, get_or, ap, sym, subst, ◌∙◌, arith, drop-cons}
+use Rattle.std.proofs.Common.{◌≡◌, ℕ, ◌<◌, true, Option, List, length, get_or, ap, sym, subst, ◌∙◌}
 use Rattle.std.proofs.lemmas.Bool.{and_parts}
-use Rattle.std.proofs.lemmas.List.{drop_all}
 use Rattle.std.proofs.lemmas.List.Elements.{All-get_or, All-same}
 use Rattle.ring_core.specs.Ring.{RingOps}
 use Rattle.ring_core.specs.Field.{IsField, FrobOps}
@@ -11,7 +10,7 @@ use Rattle.drinfeld_mod.specs.Module.{IsModule, constant_of}
 use Rattle.hom_space.specs.Full.{IsFullList}
 use Rattle.kept_lists.specs.declared.kept.KeptList.{KeptList}
 use Rattle.kept_lists.specs.Kept.{IsKeptList, AreFullLists}
-use Rattle.kept_lists.specs.Pairs.{is_pair, has_pair, pairs_of}
+use Rattle.kept_lists.specs.Pairs.{is_pair}
 
 pub module_elems : {E : Type 0} (r : RingOps E) (phi : List E) → IsModule r phi → are_elems r phi ≡ true
 module_elems r phi m = (and_parts _ _ m.canonical).0
@@ -36,24 +35,3 @@ module _ {E B : Type 0} (r : RingOps E) (inv : E → Option E) (base : RingOps B
 
   pub constants_found : constant_of r phi ≡ constant_of r psi
   constants_found = sym (ap (constant_of r) source_is) ∙ kept.constants ∙ ap (constant_of r) target_is
-
--- whether it is among the lists that are left
-module _ {E : Type 0} (r : RingOps E) (phi psi : List E) (kept : List (KeptList E)) (i : ℕ) where
-  left : (d : KeptList E) → i < length kept
-      → has_pair r phi psi (pairs_of (drop i kept)) ≡ (is_pair r phi psi ((get_or kept i d).source, (get_or kept i d).target) || has_pair r phi psi (pairs_of (drop (i + 1) kept)))
-  left d low =
-      let next : suc i ≡ i + 1 = omega arith in
-      ap (λ ks. has_pair r phi psi (pairs_of ks)) (drop-cons kept i d low)
-      ∙ ap (λ n. is_pair r phi psi ((get_or kept i d).source, (get_or kept i d).target) || has_pair r phi psi (pairs_of (drop n kept))) next
-
-  pub here : (k : KeptList E) → i < length kept → k ≡ get_or kept i k → is_pair r phi psi (k.source, k.target) ≡ true → has_pair r phi psi (pairs_of (drop i kept)) ≡ true
-  here k low read is =
-      left k low ∙ ap (λ b. b || has_pair r phi psi (pairs_of (drop (i + 1) kept))) (ap (λ m. is_pair r phi psi (m.source, m.target)) (sym read) ∙ is)
-
-  pub later : (k : KeptList E) → i < length kept → k ≡ get_or kept i k → is_pair r phi psi (k.source, k.target) ≡ false
-      → has_pair r phi psi (pairs_of (drop (i + 1) kept)) ≡ has_pair r phi psi (pairs_of (drop i kept))
-  later k low read is =
-      sym (left k low ∙ ap (λ b. b || has_pair r phi psi (pairs_of (drop (i + 1) kept))) (ap (λ m. is_pair r phi psi (m.source, m.target)) (sym read) ∙ is))
-
-  pub none_left : length kept ≤ i → has_pair r phi psi (pairs_of (drop i kept)) ≡ false
-  none_left end = ap (λ ks. has_pair r phi psi (pairs_of ks)) (drop_all i kept end)

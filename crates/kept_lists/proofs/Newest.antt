@@ -1,5 +1,5 @@
 -- The newest of kept lists: their pairs, and that each is the full list of its pair.
-use Rattle.std.proofs.Common.{◌≡◌, ℕ, ◌+◌, ◌-◌, ◌<◌, ◌≤◌, List, [], ◌∷◌, ◌++◌, length, map, drop, ap, sym, ◌∙◌, arith}
+use Rattle.std.proofs.Common.{◌≡◌, ◌-◌, List, [], ◌∷◌, ◌++◌, length, drop, ap, sym, ◌∙◌}
 use Rattle.std.proofs.lemmas.List.{drop-map, length-map, map-append}
 use Rattle.std.proofs.lemmas.List.Elements.{All-nil, All-cons, All-append, All-drop}
 use Rattle.ring_core.specs.Ring.{RingOps}
@@ -7,17 +7,6 @@ use Rattle.ring_core.specs.Field.{FrobOps}
 use Rattle.kept_lists.specs.declared.kept.KeptList.{KeptList}
 use Rattle.kept_lists.specs.Kept.{IsKeptList, AreFullLists}
 use Rattle.kept_lists.specs.Pairs.{pairs_of, newest}
-
--- up to 8 stay, and of 9 the first goes
-pub newest_few : {A : Type 0} (xs : List A) → length xs ≤ 8 → newest xs ≡ xs
-newest_few xs few =
-    let none : length xs - 8 ≡ 0 = omega arith in
-    ap (λ n. drop n xs) none
-
-pub newest_of_nine : {A : Type 0} (xs : List A) → 8 < length xs → length xs ≤ 9 → newest xs ≡ drop (0 + 1) xs
-newest_of_nine xs more few =
-    let one : length xs - 8 ≡ 0 + 1 = omega arith in
-    ap (λ n. drop n xs) one
 
 abbrev pair : {E : Type 0} → KeptList E → List E × List E
 pair k = (k.source, k.target)

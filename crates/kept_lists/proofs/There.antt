@@ -28,8 +28,5 @@ constants_there r inv base f field phi psi kept source target full h =
     constants_found r inv base f field phi psi source target one.0 one.1 one.2
 
 -- the pairs once the list of a pair is kept
-pub with_there : {E : Type 0} (r : RingOps E) (phi psi : List E) (pairs : List (List E × List E)) → has_pair r phi psi pairs ≡ true → pairs ≡ with_pair r phi psi pairs
-with_there r phi psi pairs h = sym (ap (λ b. if b then pairs else newest (pairs ++ (phi, psi) ∷ [])) h)
-
 pub with_new : {E : Type 0} (r : RingOps E) (phi psi : List E) (pairs : List (List E × List E)) → has_pair r phi psi pairs ≡ false → newest (pairs ++ (phi, psi) ∷ []) ≡ with_pair r phi psi pairs
 with_new r phi psi pairs h = sym (ap (λ b. if b then pairs else newest (pairs ++ (phi, psi) ∷ [])) h)

@@ -8,13 +8,14 @@ use Rattle.ring_core.specs.Coeffs.{coeff, sum_below}
 use Rattle.ring_core.specs.Twisted.{twisted_ops, list_mul}
 use Rattle.linear_algebra.specs.Linear.{row_at}
 use Rattle.residue_field.specs.declared.TopElem.{TopElem}
-use Rattle.residue_field.specs.Base.{ops_of, inverse_of}
-use Rattle.residue_field.specs.Top.{Top, ops_of_top, inverse_of_top, frob_of_top}
+use Rattle.residue_field.specs.Base.{ops_of}
+use Rattle.residue_field.specs.Top.{Top, ops_of_top, frob_of_top}
 use Rattle.residue_field.proofs.BaseLaws.{base_field}
 use Rattle.residue_field.proofs.TopLaws.{top_field}
 use Rattle.residue_field.proofs.TopFrob.{top_frob_field}
 use Rattle.drinfeld_mod.specs.Module.{IsModule}
-use Rattle.hom_space.proofs.Exists.{bounded_exists, full_exists}
+use Rattle.central_coords.proofs.Places.{extension}
+use Rattle.hom_space.proofs.SystemRows.{bounded_exists, full_exists}
 use Rattle.hom_space.specs.Full.{at_degree_power, IsFullList}
 use Rattle.isomorphism.specs.Isogeny.{HasNoIsogeny}
 use Rattle.isomorphism.proofs.Constants.{none as no_isomorphism, first as first_isomorphism}
@@ -32,13 +33,11 @@ no_isogeny r base f phi psi list p empty u nonzero h =
 module _ (t : Top) (phi psi : List TopElem) (source : IsModule (ops_of_top t) phi) (target : IsModule (ops_of_top t) psi) where
   pub some_bounded : (d : ℕ) → (list : List (List TopElem)) × IsItsBoundedList t phi psi d list
   some_bounded d =
-      bounded_exists (ops_of_top t) (inverse_of_top t) (ops_of t.base) (inverse_of t.base) (frob_of_top t) (top_field t) (base_field t.base) (top_frob_field t)
-      phi psi source.canonical target.canonical d
+      bounded_exists (extension (top_field t) (base_field t.base) (top_frob_field t)) (phi, source.canonical) (psi, target.canonical) d
 
   pub some_full : (list : List (List TopElem)) × IsItsFullList t phi psi list
   some_full =
-      full_exists (ops_of_top t) (inverse_of_top t) (ops_of t.base) (inverse_of t.base) (frob_of_top t) (top_field t) (base_field t.base) (top_frob_field t)
-      phi psi source.canonical target.canonical
+      full_exists (extension (top_field t) (base_field t.base) (top_frob_field t)) (phi, source.canonical) (psi, target.canonical)
 
 module _ (t : Top) (phi psi : List TopElem) (list : List (List TopElem)) where
   pub isomorphism_of : IsItsBoundedList t phi psi 0 list → (a : Answer) × IsIsomorphismOf t phi psi a
@@ -46,11 +45,11 @@ module _ (t : Top) (phi psi : List TopElem) (list : List (List TopElem)) where
       ⊎_elim
       (λ (no : length list < 1). (
         answer.Iso None,
-        no_isomorphism (ops_of_top t) (inverse_of_top t) (ops_of t.base) (inverse_of t.base) (frob_of_top t) (top_field t) (base_field t.base) (top_frob_field t) phi psi list p (omega arith),
+        no_isomorphism (extension (top_field t) (base_field t.base) (top_frob_field t)) phi psi list p (omega arith),
       ))
       (λ (some : 1 ≤ length list). (
         answer.Iso (Some (coeff (ops_of_top t) (row_at list 0) 0)),
-        first_isomorphism (ops_of_top t) (inverse_of_top t) (ops_of t.base) (inverse_of t.base) (frob_of_top t) (top_field t) (base_field t.base) (top_frob_field t) phi psi list p some,
+        first_isomorphism (extension (top_field t) (base_field t.base) (top_frob_field t)) phi psi list p some,
       ))
       (cases_lt (length list) 1)
 
@@ -60,6 +59,6 @@ module _ (t : Top) (phi psi : List TopElem) (list : List (List TopElem)) where
       (λ (no : length list < 1). (answer.Isogenous None, no_isogeny (ops_of_top t) (ops_of t.base) (frob_of_top t) phi psi list p (omega arith)))
       (λ (some : 1 ≤ length list). (
         answer.Isogenous (Some (row_at list 0)),
-        first_isogeny (ops_of_top t) (inverse_of_top t) (ops_of t.base) (inverse_of t.base) (frob_of_top t) (top_field t) (base_field t.base) (top_frob_field t) phi psi list p (row_at list 0) some refl,
+        first_isogeny (extension (top_field t) (base_field t.base) (top_frob_field t)) phi psi list p (row_at list 0) some refl,
       ))
       (cases_lt (length list) 1)

@@ -3,13 +3,13 @@
 use Rattle.std.proofs.Common.{◌≡◌, ℕ, Some, None, List, length, refl, sym, ◌∙◌, ap}
 use Rattle.linear_algebra.specs.Linear.{row_at}
 use Rattle.residue_field.specs.declared.TopElem.{TopElem}
-use Rattle.residue_field.specs.Base.{ops_of, inverse_of}
-use Rattle.residue_field.specs.Top.{Top, ops_of_top, inverse_of_top, frob_of_top}
+use Rattle.residue_field.specs.Top.{Top, ops_of_top}
 use Rattle.residue_field.proofs.BaseLaws.{base_field}
 use Rattle.residue_field.proofs.TopLaws.{top_field}
 use Rattle.residue_field.proofs.TopFrob.{top_frob_field}
 use Rattle.drinfeld_mod.specs.Module.{IsModule}
-use Rattle.hom_space.proofs.Unique.{one_bounded_list}
+use Rattle.central_coords.proofs.Places.{extension}
+use Rattle.hom_space.proofs.BoundedList.{one_bounded_list}
 use Rattle.hom_space.proofs.FullList.{one_full_list}
 use Rattle.script_lang.proofs.Equal.{same_head}
 use Rattle.answer.specs.declared.Answer.{Answer}
@@ -23,13 +23,11 @@ one_members a b P once h g = h.1 ∙ ap (λ x. answer.Members x) (once h.0 g.0 h
 module _ (t : Top) (phi psi : List TopElem) (source : IsModule (ops_of_top t) phi) (target : IsModule (ops_of_top t) psi) where
   pub one_bounded : (d : ℕ) (a b : List (List TopElem)) → IsItsBoundedList t phi psi d a → IsItsBoundedList t phi psi d b → a ≡ b
   one_bounded d a b h g =
-      one_bounded_list (ops_of_top t) (inverse_of_top t) (ops_of t.base) (inverse_of t.base) (frob_of_top t) (top_field t) (base_field t.base) (top_frob_field t)
-      phi psi source.canonical target.canonical d a b h g
+      one_bounded_list (extension (top_field t) (base_field t.base) (top_frob_field t)) (phi, source.canonical) (psi, target.canonical) d a b h g
 
   pub one_full : (a b : List (List TopElem)) → IsItsFullList t phi psi a → IsItsFullList t phi psi b → a ≡ b
   one_full a b h g =
-      one_full_list (ops_of_top t) (inverse_of_top t) (ops_of t.base) (inverse_of t.base) (frob_of_top t) (top_field t) (base_field t.base) (top_frob_field t)
-      phi psi source.canonical target.canonical a b h g
+      one_full_list (extension (top_field t) (base_field t.base) (top_frob_field t)) (phi, source.canonical) (psi, target.canonical) a b h g
 
   pub one_count : (a b : Answer) → IsCountOf t phi psi a → IsCountOf t phi psi b → a ≡ b
   one_count a b h g = h.1 ∙ ap (λ x. answer.Count (length x) (greatest_degree x)) (one_full h.0 g.0 h.2 g.2) ∙ sym g.1

@@ -1,11 +1,11 @@
-use Rattle.std.proofs.Common.{◌<◌, ◌/◌, ◌%◌, [], length, ap, ◌∙◌, arith}
+use Rattle.std.proofs.Common.{◌≡◌, ◌<◌, ◌/◌, ◌%◌, [], length, ap, ◌∙◌, arith}
 use Rattle.std.proofs.Math.Nat.{mod-lt}
 use Rattle.std.proofs.lemmas.Bool.{and_parts}
 use Rattle.std.proofs.lemmas.List.{get_or_default}
-use Rattle.ring_core.specs.Coeffs.{coeff, are_elems, is_trimmed}
-use Rattle.ring_core.proofs.Coefficients.{values_more}
+use Rattle.ring_core.specs.Coeffs.{coeff, are_elems}
 use Rattle.linear_algebra.specs.Linear.{row_at}
 use Rattle.flat_modules.proofs.Lists.{flat_at}
+use Rattle.central_coords.proofs.Rows.{values_after}
 use Rattle.central_coords.proofs.polys.interleaved.Goals as goal
 
 pub coeff_at-requires : goal.coeff_at-requires
@@ -14,8 +14,7 @@ coeff_at-requires g c =
     let list = c.args.list.now in
     let p = c.loop-c.c % length list in
     let low : p < length list = mod-lt c.loop-c.c (omega (arith, c.requires.some)) in
-    ap (are_elems r) (c.as_slice.ensures ∙ c.index-list-p.is ∙ get_or_default list p c.index-list-p.result [] low)
-    ∙ (and_parts (are_elems r (row_at list p)) (is_trimmed r (row_at list p)) (flat_at r list c.requires.polys p)).0
+    ap (are_elems r) (c.as_slice.ensures ∙ c.index-list-p.is ∙ get_or_default list p c.index-list-p.result [] low) ∙ (and_parts (are_elems r (row_at list p)) _ (flat_at r list c.requires.polys p)).0
 
 pub loop-c-preserved : goal.loop-c-preserved
 loop-c-preserved g c =
@@ -24,5 +23,5 @@ loop-c-preserved g c =
     let at = c.loop-c.c in
     let p = at % length list in
     let low : p < length list = mod-lt at (omega (arith, c.requires.some)) in
-    values_more r at (λ c. coeff r (row_at list (c % length list)) (c / length list)) c.loop-c.values.items c.push.new.self.items c.coeff_at.result c.in_ok-push.ensures.items c.loop-c.invariant
+    values_after [] at (λ c. coeff r (row_at list (c % length list)) (c / length list)) _ _ _ c.in_ok-push.ensures.items c.loop-c.invariant
     (c.coeff_at.ensures.value ∙ ap (λ v. coeff r v (at / length list)) (c.as_slice.ensures ∙ c.index-list-p.is ∙ get_or_default list p c.index-list-p.result [] low))

@@ -2,16 +2,14 @@ use Rattle.std.proofs.Common.{◌++◌, [], length, ap, ◌∙◌, arith}
 use Rattle.std.proofs.lemmas.List.{get_or_default}
 use Rattle.ring_core.specs.Coeffs.{first_values}
 use Rattle.hom_space.specs.steps.Shifts.{shifted_row, shift_count}
-use Rattle.hom_space.proofs.ShiftRows.{more_shifts}
+use Rattle.hom_space.proofs.Shifts.{more_shifts}
 use Rattle.hom_space.proofs.from_full.shifts.Goals as goal
 
 pub loop-i-preserved : goal.loop-i-preserved
 loop-i-preserved g c =
-    let k = c.args.k.now in
-    let r = g.K.Field.ops k in
-    let f = g.K.FrobField.frob_ops k in
-    let b = g.K.FrobField.base_of k in
-    let base = g.K.Base.Field.ops b in
+    let r = g.K.Field.ops c.args.k.now in
+    let f = g.K.FrobField.frob_ops c.args.k.now in
+    let base = g.K.Base.Field.ops (g.K.FrobField.base_of c.args.k.now) in
     let d = c.args.d in
     let full = c.args.full.now in
     let i = c.loop-i.i in

@@ -1,10 +1,8 @@
-use Rattle.std.proofs.Common.{◌≡◌, ◌<◌, inl, inr, [], ◌∷◌, ◌++◌, length, sym, ap, ◌∙◌, subst, arith}
+use Rattle.std.proofs.Common.{◌≡◌, length, ap, ◌∙◌, arith}
 use Rattle.std.proofs.lemmas.List.{length_push}
-use Rattle.linear_algebra.specs.Linear.{row_at}
-use Rattle.linear_algebra.proofs.Sums.{same_or_other}
-use Rattle.flat_reduce.proofs.Pushed.{push_low, push_last}
+use Rattle.ring_core.specs.Coeffs.{coeff}
 use Rattle.flat_reduce.proofs.Reading.{read_elems, read_row}
-use Rattle.hom_space.specs.steps.Reading.{IsReadRow}
+use Rattle.hom_space.proofs.HomRows.{read_more}
 use Rattle.hom_space.proofs.whole.read_flat.Goals as goal
 
 pub of_coordinates-requires : goal.of_coordinates-requires
@@ -14,27 +12,19 @@ of_coordinates-requires g c =
 
 pub loop-i-preserved : goal.loop-i-preserved
 loop-i-preserved g c =
-    let k = c.args.k.now in
-    let r = g.K.Field.ops k in
-    let base = g.K.Base.Field.ops (g.K.FrobField.base_of k) in
-    let f = g.K.FrobField.frob_ops k in
-    let rows = c.args.rows.now in
-    let before = c.loop-i.invariant in
+    let base = g.K.Base.Field.ops (g.K.FrobField.base_of c.args.k.now) in
     let list = c.loop-i.list.items in
     let u = c.in_ok-of_coordinates.field-0 in
-    let pushed : c.push.new.self.items ≡ list ++ u ∷ [] = c.in_ok-push.ensures.items in
-    let count = ap length pushed in
-    let one_more = length_push list u in
-    let read = read_row rows c.loop-i.i _ c.index-rows-i.result (omega arith) (c.as_slice.ensures ∙ c.index-rows-i.is) in
+    let made = c.in_ok-of_coordinates.ensures in
+    let read = read_row c.args.rows.now c.loop-i.i _ c.index-rows-i.result (omega arith) (c.as_slice.ensures ∙ c.index-rows-i.is) in
+    let long : length list ≡ c.loop-i.i = c.loop-i.invariant.count in
     record {
-      count = omega (arith, count, one_more, before.count);
-      each = λ j l. elim (same_or_other j c.loop-i.i) [
-        | inl here ↦
-            let last : row_at c.push.new.self.items j ≡ u = ap (λ v. row_at v j) pushed ∙ push_last list u j (before.count ∙ sym here) in
-            subst (λ v. IsReadRow r base f (row_at rows j) v) (sym last)
-            (subst (λ x. IsReadRow r base f x u) (read ∙ ap (row_at rows) (sym here)) (record { canonical = c.in_ok-of_coordinates.ensures.elem; coords = c.in_ok-of_coordinates.ensures.coords }))
-        | inr ne ↦
-            let low : j < length list = omega (arith, l, ne, before.count, count, one_more) in
-            subst (λ v. IsReadRow r base f (row_at rows j) v) (sym (ap (λ v. row_at v j) pushed ∙ push_low list u j low)) (before.each j low)
-      ];
+      count = ap length c.in_ok-push.ensures.items ∙ length_push list u ∙ omega (arith, long);
+      each = read_more _ _ _ c.args.rows.now list c.push.new.self.items u c.loop-i.i c.in_ok-push.ensures.items long c.loop-i.invariant.each
+          (record { canonical = made.elem; coords = λ t. made.coords t ∙ ap (λ v. coeff base v t) read });
     }
+
+pub returns : goal.returns
+returns g c =
+    let long = c.loop-i.invariant.count in
+    record { count = omega (arith, long); each = λ j low. c.loop-i.invariant.each j (omega (arith, low, long)) }

@@ -5,11 +5,7 @@ use Rattle.hom_space.proofs.whole.read_flat.Given as goal
 
 abbrev pub invariant-loop-i : goal.invariant-loop-i
 invariant-loop-i g l =
-    let k = l.k in
-    let r = g.K.Field.ops k in
-    let base = g.K.Base.Field.ops (g.K.FrobField.base_of k) in
-    let f = g.K.FrobField.frob_ops k in
     record {
       count : length l.list.items ≡ l.i;
-      each : (j : ℕ) → j < length l.list.items → IsReadRow r base f (row_at l.rows j) (row_at l.list.items j);
+      each : (i : ℕ) → i < l.i → IsReadRow (g.K.Field.ops l.k) (g.K.Base.Field.ops (g.K.FrobField.base_of l.k)) (g.K.FrobField.frob_ops l.k) (row_at l.rows i) (row_at l.list.items i);
     }
