@@ -12,18 +12,13 @@ use Rattle.flat_modules.specs.Flat.{are_flat, lead_at, shifted}
 use Rattle.flat_modules.proofs.Lists.{flat_at, flat_in}
 use Rattle.flat_reduce.specs.steps.Settled.{slot_of}
 use Rattle.flat_reduce.specs.steps.Turns.{IsRowAdded, Turns, none, turn}
-use Rattle.popov_basis.specs.steps.Leading.{IsNaming, IsClearedAt, IsCleared, AreCleared}
+use Rattle.popov_basis.specs.steps.Leading.{IsNaming, IsClearedAt, IsClearedFrom, AreCleared}
 use Rattle.flat_reduce.proofs.Settling.{some_same, none_not_some, rest_row, turns_more}
 use Rattle.flat_reduce.proofs.RowSteps.{same_place, length_by_zeros}
 
--- Row `p` was cleared at the places from `t` on.
-pub record IsClearedFrom {E : Type 0} (r : RingOps E) (w p t : ℕ) (rows new : List (List E)) : Type 0 where
-  pub len : length new ≡ length rows
-  pub lens : (k : ℕ) → length (row_at new k) ≡ length (row_at rows k)
-  pub others : (k : ℕ) → k ≢ p → row_at new k ≡ row_at rows k
-  pub one : entry r new p (lead_at rows p) ≡ entry r rows p (lead_at rows p)
-  pub clear : (j e : ℕ) → j < length rows → j ≢ p → t ≤ lead_at rows j + e * w → entry r new p (lead_at rows j + e * w) ≡ r.zero
-  pub turned : Turns r w (length rows) rows [] [] new [] []
+-- The row that is named at the place of a lead plus a multiple of the width.
+pub named_at : {E : Type 0} (w : ℕ) (slot : List (Option ℕ)) (rows : List (List E)) → IsNaming w (length rows) slot rows → (t j e : ℕ) → j < length rows → t ≡ lead_at rows j + e * w → slot_of slot (t % w) ≡ Some j
+named_at w slot rows naming t j e l is = ap (slot_of slot) (ap (λ a. a % w) is ∙ add-mul-mod_self_right (lead_at rows j) e w) ∙ naming.all j l
 
 module _ {E : Type 0} (r : RingOps E) (inv : E → Option E) (field : IsField r inv) where
   abbrev ring : IsRing r
@@ -56,9 +51,6 @@ module _ {E : Type 0} (r : RingOps E) (inv : E → Option E) (field : IsField r 
 
   module _ (w p : ℕ) (posw : 0 < w) (slot : List (Option ℕ)) where
     module _ (rows : List (List E)) (ri : are_flat r rows ≡ true) (naming : IsNaming w (length rows) slot rows) where
-      lead_place : (t j e : ℕ) → t ≡ lead_at rows j + e * w → lead_at rows j % w ≡ t % w
-      lead_place t j e is = sym (ap (λ a. a % w) is ∙ add-mul-mod_self_right (lead_at rows j) e w)
-
       abbrev Same : ℕ → Type 0
       Same t = IsClearedAt r w p t rows rows
 
@@ -69,12 +61,12 @@ module _ {E : Type 0} (r : RingOps E) (inv : E → Option E) (field : IsField r 
       clear_zero t z = unchanged t (λ j e l is. z)
 
       pub clear_free : (t : ℕ) → slot_of slot (t % w) ≡ None → Same t
-      clear_free t free = unchanged t (λ j e l is. absurd (none_not_some j (slot_of slot (t % w)) free (ap (slot_of slot) (sym (lead_place t j e is)) ∙ naming.all j l)))
+      clear_free t free = unchanged t (λ j e l is. absurd (none_not_some j (slot_of slot (t % w)) free (named_at w slot rows naming t j e l is)))
 
       module _ (t q : ℕ) (named : slot_of slot (t % w) ≡ Some q) where
         pub clear_high : t < lead_at rows q → Same t
         clear_high l = unchanged t (λ j e lj is.
-            let same = some_same q j (sym named ∙ ap (slot_of slot) (sym (lead_place t j e is)) ∙ naming.all j lj) in
+            let same = some_same q j (sym named ∙ named_at w slot rows naming t j e lj is) in
             let leads = ap (lead_at rows) same in
             absurd (omega (arith, l, leads, is)))
 
@@ -116,7 +108,7 @@ module _ {E : Type 0} (r : RingOps E) (inv : E → Option E) (field : IsField r 
         one = refl;
         clear = λ j e lj ne far.
             let apart : lead_at rows j + e * w ≢ lead_at rows p = λ is.
-            ne (some_same j p (sym (naming.all j lj) ∙ ap (slot_of slot) (lead_place (lead_at rows p) j e (sym is)) ∙ naming.all p lp)) in
+            ne (some_same j p (sym (named_at w slot rows naming (lead_at rows p) j e lj (sym is)) ∙ naming.all p lp)) in
             coeff_past r (row_at rows p) (lead_at rows j + e * w) (omega (arith, far, apart));
         turned = none;
       }
@@ -154,7 +146,7 @@ module _ {E : Type 0} (r : RingOps E) (inv : E → Option E) (field : IsField r 
             turned = turns_more r w (length rows) rows [] [] mid [] [] new [] [] before.turned (subst (λ n. Turns r w n mid [] [] new [] []) before.len step.turned);
           }
 
-      pub rows_more : AreCleared r w p rows mid → IsCleared r w p mid new → AreCleared r w (p + 1) rows new
+      pub rows_more : AreCleared r w p rows mid → IsClearedFrom r w p 0 mid new → AreCleared r w (p + 1) rows new
       rows_more before step = record {
         len = step.len ∙ before.len;
         lens = λ k. step.lens k ∙ before.lens k;
@@ -170,7 +162,7 @@ module _ {E : Type 0} (r : RingOps E) (inv : E → Option E) (field : IsField r 
             elim (same_or_other k p) [
               | inl is ↦
                   let count = before.len in
-                  ap (λ i. entry r new i at) is ∙ ap (λ n. entry r new p (n - 1 + e * w)) (sym (before.lens j)) ∙ step.clear j e (omega (arith, lj, count)) (λ q. ne (q ∙ sym is))
+                  ap (λ i. entry r new i at) is ∙ ap (λ n. entry r new p (n - 1 + e * w)) (sym (before.lens j)) ∙ step.clear j e (omega (arith, lj, count)) (λ q. ne (q ∙ sym is)) (omega arith)
               | inr other ↦ ap (λ u. coeff r u at) (step.others k other) ∙ before.clear k j e (omega (arith, lk, other)) lj ne
             ];
         turned = turns_more r w (length rows) rows [] [] mid [] [] new [] [] before.turned (subst (λ n. Turns r w n mid [] [] new [] []) before.len step.turned);
@@ -178,6 +170,3 @@ module _ {E : Type 0} (r : RingOps E) (inv : E → Option E) (field : IsField r 
 
   pub rows_none : (w : ℕ) (rows : List (List E)) → AreCleared r w 0 rows rows
   rows_none w rows = record { len = refl; lens = λ k. refl; one = λ k. refl; clear = λ k j e l. absurd (omega (arith, l)); turned = none }
-
-  pub cleared_whole : (w p : ℕ) (rows new : List (List E)) → IsClearedFrom r w p 0 rows new → IsCleared r w p rows new
-  cleared_whole w p rows new h = record { len = h.len; lens = h.lens; others = h.others; one = h.one; clear = λ j e l ne. h.clear j e l ne (omega arith); turned = h.turned }

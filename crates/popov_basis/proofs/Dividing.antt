@@ -1,6 +1,6 @@
 -- Division with remainder: the combination and the rest keep their sum.
 use Rattle.std.proofs.Common.{◌≡◌, ◌≢◌, ℕ, zero, suc, ◌+◌, ◌-◌, ◌*◌, ◌/◌, ◌%◌, ◌<◌, ◌≤◌, inl, inr, true, Option, Some, None, List, [], ◌∷◌, length, set, cond, nat_lt, refl, sym, ◌∙◌, ap, ap₂, arith, eq-eqb, ne_eqb, le-ltb, ltb-true, ltb-false}
-use Rattle.std.proofs.Math.Nat.{add-mul-mod_self_right}
+use Rattle.std.proofs.lemmas.Bool.{cond_both}
 use Rattle.std.proofs.lemmas.Nat.{div-add-mod', div-mul-add, mod-mul-add, le-div}
 use Rattle.ring_core.specs.Ring.{RingOps, IsElem, IsRing}
 use Rattle.ring_core.specs.Coeffs.{coeff, are_elems, is_canonical}
@@ -8,16 +8,16 @@ use Rattle.ring_core.proofs.Carrier.{RingOn, Element, elements, same_element, ad
 use Rattle.ring_core.proofs.Coefficients.{coeff_past, elem_read}
 use Rattle.ring_core.proofs.Twist.{sum_of_zeros}
 use Rattle.linear_algebra.specs.Linear.{row_at, entry}
-use Rattle.linear_algebra.proofs.Sums.{combine, combine_add, combine_scale, unit_combine, unit, unit_same, unit_other, total_same, by_bool, same_or_other}
+use Rattle.linear_algebra.proofs.Sums.{combine, combine_same, combine_add, combine_scale, unit_combine, unit, unit_same, unit_other, total_same, by_bool, same_or_other}
 use Rattle.linear_algebra.proofs.Lift.{rows_of}
 use Rattle.flat_modules.specs.Flat.{are_flat, lead_at, shifted, times, combination, unit_at, IsStandard, IsNormal}
-use Rattle.flat_modules.proofs.Lists.{flat_in, longest, listed, combination_value, shift_value}
+use Rattle.flat_modules.proofs.Lists.{flat_in, longest, listed, combination_room, combination_value, shift_value}
 use Rattle.flat_modules.proofs.Shift.{shift, powers}
-use Rattle.flat_modules.proofs.Product.{combine_more}
 use Rattle.flat_modules.proofs.Rest.{power_row}
 use Rattle.flat_reduce.specs.steps.Settled.{slot_of}
 use Rattle.popov_basis.specs.steps.Leading.{IsNaming}
 use Rattle.popov_basis.specs.steps.Division.{IsTermAdded, IsDividedAt, IsDividedFrom}
+use Rattle.popov_basis.proofs.Clearing.{named_at}
 use Rattle.flat_reduce.proofs.Settling.{some_same, none_not_some}
 use Rattle.flat_reduce.proofs.RowSteps.{same_place, shift_added}
 
@@ -47,15 +47,14 @@ module _ {E : Type 0} (r : RingOps E) (h : IsRing r) where
 
   -- a one behind `e` zeros
   pub one_at : (e s : ℕ) → shifted r e (coeff r (r.one ∷ [])) s ≡ unit_at r e s
-  one_at e s = by_bool (nat_lt s e)
-      (λ b. let l = ltb-true s e b in ap (λ v. cond v r.zero (coeff r (r.one ∷ []) (s - e))) b ∙ sym (ap (λ v. cond v r.one r.zero) (ne_eqb e s (λ q. omega (arith, q, l)))))
-      (λ b.
-      let l : e ≤ s = ltb-false s e b in
-      ap (λ v. cond v r.zero (coeff r (r.one ∷ []) (s - e))) b
-      ∙ elim (same_or_other e s) [
-        | inl q ↦ let z : s - e ≡ 0 = omega (arith, q) in ap (coeff r (r.one ∷ [])) z ∙ sym (ap (λ v. cond v r.one r.zero) (eq-eqb e s q))
-        | inr ne ↦ let past : 1 ≤ s - e = omega (arith, l, ne) in coeff_past r (r.one ∷ []) (s - e) past ∙ sym (ap (λ v. cond v r.one r.zero) (ne_eqb e s ne))
-      ])
+  one_at e s = elim (same_or_other e s) [
+    | inl q ↦
+        let z : s - e ≡ 0 = omega (arith, q) in
+        ap (λ v. cond v r.zero (coeff r (r.one ∷ []) (s - e))) (le-ltb s e (omega (arith, q))) ∙ ap (coeff r (r.one ∷ [])) z ∙ sym (ap (λ v. cond v r.one r.zero) (eq-eqb e s q))
+    | inr ne ↦
+        cond_both (nat_lt s e) r.zero (coeff r (r.one ∷ []) (s - e)) (λ a. a ≡ r.zero) (λ b. refl)
+        (λ b. let l : e ≤ s = ltb-false s e b in coeff_past r (r.one ∷ []) (s - e) (omega (arith, l, ne))) ∙ sym (ap (λ v. cond v r.one r.zero) (ne_eqb e s ne))
+  ]
 
   module _ (w : ℕ) (rows : List (List E)) (ri : are_flat r rows ≡ true) where
     abbrev n : ℕ
@@ -74,12 +73,6 @@ module _ {E : Type 0} (r : RingOps E) (h : IsRing r) where
     module _ (by new : List (List E)) (bi : are_flat r by ≡ true) (ni : are_flat r new ≡ true) (q e : ℕ) (c : E) (ci : IsElem r c) (lq : q < length rows) (added : IsTermAdded r q e c by new) where
       abbrev j : ℕ
       j = e * n + q
-
-      past : (a : List (List E)) (ai : are_flat r a ≡ true) (k : ℕ) → (longest r a).0 * n ≤ k → listed r h w rows a ri ai k ≡ S.zero
-      past a ai k far =
-          let d = le-div (longest r a).0 k n (omega (arith, lq)) far in
-          let l = (longest r a).1 (k % n) in
-          same_element r _ _ (coeff_past r (row_at a (k % n)) (k / n) (omega (arith, d, l)))
 
       same : (k : ℕ) → listed r h w rows new ri ni k ≡ by_more S (listed r h w rows by ri bi) (c, ci) j k
       same k =
@@ -109,20 +102,16 @@ module _ {E : Type 0} (r : RingOps E) (h : IsRing r) where
           let a = (longest r by).0 * n in
           let b = (longest r new).0 * n in
           let room = a + b + suc j in
+          let pos : 0 < n = omega (arith, lq) in
           let L = listed r h w rows by ri bi in
-          sym (combination_value r h w rows new ri ni t)
+          sym (combination_room r h w rows new ri ni pos room t (omega arith))
           ∙ ap (λ x. x.0)
-          (sym (combine_more S b room (listed r h w rows new ri ni) family t (omega arith) (past new ni))
-          ∙ total_same S room _ _ (λ k _. ap (λ x. S.mul x (family k t)) (same k))
-          ∙ combine_more_at S room L (c, ci) j family t (omega arith)
-          ∙ ap₂ S.add (combine_more S a room L family t (omega arith) (past by bi)) (ap (S.mul (c, ci)) (power_row S n w v q e t lq)))
-          ∙ ap₂ r.add (combination_value r h w rows by ri bi t) (ap (r.mul c) (shift_value r h (e * w) (v q) t))
+          (combine_same S room _ (by_more S L (c, ci) j) family t (λ k _. same k) ∙ combine_more_at S room L (c, ci) j family t (omega arith)
+          ∙ ap (λ x. S.add (combine S room L family t) (S.mul (c, ci) x)) (power_row S n w v q e t lq))
+          ∙ ap₂ r.add (combination_room r h w rows by ri bi pos room t (omega arith)) (ap (r.mul c) (shift_value r h (e * w) (v q) t))
 
     -- one place of the walk
     module _ (posw : 0 < w) (slot : List (Option ℕ)) (naming : IsNaming w (length rows) slot rows) (by : List (List E)) (bi : are_flat r by ≡ true) (rest : List E) (xi : are_elems r rest ≡ true) (t : ℕ) where
-      lead_place : (j e : ℕ) → t ≡ lead_at rows j + e * w → lead_at rows j % w ≡ t % w
-      lead_place j e is = sym (ap (λ a. a % w) is ∙ add-mul-mod_self_right (lead_at rows j) e w)
-
       abbrev Same : Type 0
       Same = IsDividedAt r w t rows by by rest rest
 
@@ -133,12 +122,12 @@ module _ {E : Type 0} (r : RingOps E) (h : IsRing r) where
       divide_zero z = unchanged (λ j e l is. z)
 
       pub divide_free : slot_of slot (t % w) ≡ None → Same
-      divide_free free = unchanged (λ j e l is. absurd (none_not_some j (slot_of slot (t % w)) free (ap (slot_of slot) (sym (lead_place j e is)) ∙ naming.all j l)))
+      divide_free free = unchanged (λ j e l is. absurd (none_not_some j (slot_of slot (t % w)) free (named_at w slot rows naming t j e l is)))
 
       module _ (q : ℕ) (named : slot_of slot (t % w) ≡ Some q) where
         pub divide_high : t < lead_at rows q → Same
         divide_high l = unchanged (λ j e lj is.
-            let one_row = some_same q j (sym named ∙ ap (slot_of slot) (sym (lead_place j e is)) ∙ naming.all j lj) in
+            let one_row = some_same q j (sym named ∙ named_at w slot rows naming t j e lj is) in
             let leads = ap (lead_at rows) one_row in
             absurd (omega (arith, l, leads, is)))
 
@@ -215,16 +204,3 @@ module _ {E : Type 0} (r : RingOps E) (h : IsRing r) where
   standard_full ne w rows s k l = by_bool (nat_lt 0 (length (row_at rows k)))
       (λ b. ltb-true 0 (length (row_at rows k)) b)
       (λ b. let u : length (row_at rows k) ≤ 0 = ltb-false 0 (length (row_at rows k)) b in absurd (ne (sym (s.one k l) ∙ coeff_past r (row_at rows k) (lead_at rows k) (omega (arith, u)))))
-
--- one row was written
-pub row_here : {E : Type 0} (rows : List (List E)) (q : ℕ) (x : List E) → q < length rows → row_at (set rows q x) q ≡ x
-row_here [] q x l = absurd (omega arith)
-row_here (y ∷ ys) zero x l = refl
-row_here (y ∷ ys) (suc q) x l = row_here ys q x (omega arith)
-
-pub row_apart : {E : Type 0} (rows : List (List E)) (q i : ℕ) (x : List E) → i ≢ q → row_at (set rows q x) i ≡ row_at rows i
-row_apart [] q i x ne = refl
-row_apart (y ∷ ys) zero zero x ne = absurd (ne refl)
-row_apart (y ∷ ys) zero (suc i) x ne = refl
-row_apart (y ∷ ys) (suc q) zero x ne = refl
-row_apart (y ∷ ys) (suc q) (suc i) x ne = row_apart ys q i x (λ e. ne (ap suc e))

@@ -19,22 +19,24 @@ use Rattle.flat_reduce.specs.steps.Settled.{slot_of, IsUnsettled}
 use Rattle.flat_reduce.proofs.KernelBasis.{kernel_basis}
 use Rattle.flat_reduce.proofs.Pushed.{free_len, not_free, flat_push}
 use Rattle.flat_reduce.proofs.RowSteps.{inverse_of}
-use Rattle.flat_reduce.proofs.Settling.{some_same, set_here, set_apart}
+use Rattle.flat_reduce.proofs.Settling.{some_same, set_here, set_apart, empty_row}
 use Rattle.poly_reduce.specs.Matrices.{member, StandFor, IsInRows}
 use Rattle.poly_reduce.proofs.Views.{p}
-use Rattle.poly_reduce.proofs.Stands.{row_for, row_for_shape, row_for_is, flats_exist}
+use Rattle.poly_reduce.proofs.Stands.{rows_exist, flats_exist}
 use Rattle.popov_basis.specs.StandardRows.{IsStandardRowBasis}
-use Rattle.popov_basis.specs.steps.Leading.{IsNext, IsMonicOf, IsLeading, IsNaming, IsClearedAt, AreCleared}
+use Rattle.popov_basis.specs.steps.Leading.{IsNext, IsMonicOf, IsLeading, IsNaming, IsClearedAt, IsClearedFrom, AreCleared}
 use Rattle.popov_basis.proofs.Leads.{monic_is, leading_none, leading_more}
-use Rattle.popov_basis.proofs.Clearing.{IsClearedFrom, clear_free, clear_high, clear_added, clear_start, clear_more, naming_same, rows_none, rows_more, cleared_whole}
+use Rattle.popov_basis.proofs.Clearing.{clear_free, clear_high, clear_added, clear_start, clear_more, naming_same, rows_none, rows_more}
 use Rattle.popov_basis.proofs.RelationBasis.{no_relations, relations_basis}
 use Rattle.popov_basis.proofs.RowBases.{basis_from}
 use Rattle.popov_basis.proofs.SettledRows.{by_option, added_exists, top_inverse, settled_exist}
 use Rattle.popov_basis.proofs.StandardBasis.{settled_apart, leading_places, standard_basis}
 
-empty : {X : Type 0} (u : List X) → length u ≡ 0 → u ≡ []
-empty [] l = refl
-empty (x ∷ xs) l = absurd (omega arith)
+-- Rows that are found, with what they are wanted for.
+pub record Found {E : Type 0} (r : RingOps E) (P : List (List E) → Type 0) : Type 0 where
+  pub new : List (List E)
+  pub flat : are_flat r new ≡ true
+  pub is : P new
 
 -- Each row is named at its lead place.
 module _ {E : Type 0} (w : ℕ) (posw : 0 < w) (rows : List (List E)) (apart : (i k : ℕ) → i < length rows → k < length rows → i ≢ k → lead_at rows i % w ≢ lead_at rows k % w) where
@@ -96,15 +98,10 @@ module _ {E : Type 0} (r : RingOps E) (inv : E → Option E) (field : IsField r 
             (λ t. coeff-list_of r ring.closed.zero_in ring.equal (length row) value value_in (λ i l. times_zero r ring inverse.inverse _ v.0 (coeff_past r row i l)) t);
       }
 
-  -- Settled rows over their tops, in rising order.
-  record HasLeading (image : List (List E)) (above : ℕ) : Type 0 where
-    list : List (List E)
-    flat : are_flat r list ≡ true
-    is : IsLeading r image above list
-
   module _ (image : List (List E)) (fi : are_flat r image ≡ true) (apart : (i k : ℕ) → i ≢ k → 0 < length (row_at image i) → length (row_at image i) ≢ length (row_at image k)) where
-    leading_exists : (above : ℕ) → HasLeading image above
-    leading_exists zero = record { list = []; flat = refl; is = leading_none r image }
+    -- settled rows over their tops, in rising order
+    leading_exists : (above : ℕ) → Found r (IsLeading r image above)
+    leading_exists zero = record { new = []; flat = refl; is = leading_none r image }
     leading_exists (suc above) =
         let s = leading_exists above in
         elim (find_place (length image) (λ i. length (row_at image i)) (suc above)) [
@@ -114,13 +111,13 @@ module _ {E : Type 0} (r : RingOps E) (inv : E → Option E) (field : IsField r 
               let m = monic_exists (row_at image i) (flat_at r image fi i) (omega (arith, len)) in
               let next : IsNext image above i = record { within = found.1; longer = omega (arith, len); least = λ k l. omega (arith, len, l) } in
               record {
-                list = s.list ++ m.monic ∷ [];
-                flat = flat_push r s.list m.monic s.flat m.flat;
-                is = subst (λ n. IsLeading r image n (s.list ++ m.monic ∷ [])) len (leading_more r image above s.list s.is i next m.monic m.is apart);
+                new = s.new ++ m.monic ∷ [];
+                flat = flat_push r s.new m.monic s.flat m.flat;
+                is = subst (λ n. IsLeading r image n (s.new ++ m.monic ∷ [])) len (leading_more r image above s.new s.is i next m.monic m.is apart);
               }
           | inr none ↦
               record {
-                list = s.list;
+                new = s.new;
                 flat = s.flat;
                 is = record {
                   rising = s.is.rising;
@@ -141,12 +138,7 @@ module _ {E : Type 0} (r : RingOps E) (inv : E → Option E) (field : IsField r 
     abbrev Ones : List (List E) → Type 0
     Ones rows = (k : ℕ) → k < length rows → entry r rows k (lead_at rows k) ≡ r.one
 
-    record HasClearedAt (p t : ℕ) (rows : List (List E)) : Type 0 where
-      new : List (List E)
-      flat : are_flat r new ≡ true
-      is : IsClearedAt r w p t rows new
-
-    clear_at_exists : (rows : List (List E)) → are_flat r rows ≡ true → IsNaming w (length rows) slot rows → Ones rows → (p t : ℕ) → p < length rows → t < lead_at rows p → HasClearedAt p t rows
+    clear_at_exists : (rows : List (List E)) → are_flat r rows ≡ true → IsNaming w (length rows) slot rows → Ones rows → (p t : ℕ) → p < length rows → t < lead_at rows p → Found r (IsClearedAt r w p t rows)
     clear_at_exists rows ri naming ones p t lp below =
         by_option (slot_of slot (t % w))
         (λ e. record { new = rows; flat = ri; is = clear_free r inv field w p posw slot rows ri naming t e })
@@ -163,13 +155,8 @@ module _ {E : Type 0} (r : RingOps E) (inv : E → Option E) (field : IsField r 
         }))
 
     module _ (rows : List (List E)) (ri : are_flat r rows ≡ true) (naming : IsNaming w (length rows) slot rows) (ones : Ones rows) where
-      record HasClearedFrom (p t : ℕ) : Type 0 where
-        new : List (List E)
-        flat : are_flat r new ≡ true
-        is : IsClearedFrom r w p t rows new
-
       -- the row is cleared from its lead down
-      clear_from_exists : (p : ℕ) → p < length rows → (k t : ℕ) → t + k ≡ lead_at rows p → HasClearedFrom p t
+      clear_from_exists : (p : ℕ) → p < length rows → (k t : ℕ) → t + k ≡ lead_at rows p → Found r (IsClearedFrom r w p t rows)
       clear_from_exists p lp zero t e = record {
         new = rows;
         flat = ri;
@@ -191,13 +178,8 @@ module _ {E : Type 0} (r : RingOps E) (inv : E → Option E) (field : IsField r 
             is = clear_more r inv field w p posw slot rows mid c.new s.flat c.flat t (omega (arith, e)) s.is c.is;
           }
 
-    record HasCleared (rows : List (List E)) (n : ℕ) : Type 0 where
-      new : List (List E)
-      flat : are_flat r new ≡ true
-      is : AreCleared r w n rows new
-
     -- the rows are cleared one after another
-    clear_exists : (rows : List (List E)) → are_flat r rows ≡ true → IsNaming w (length rows) slot rows → Ones rows → (n : ℕ) → n ≤ length rows → HasCleared rows n
+    clear_exists : (rows : List (List E)) → are_flat r rows ≡ true → IsNaming w (length rows) slot rows → Ones rows → (n : ℕ) → n ≤ length rows → Found r (AreCleared r w n rows)
     clear_exists rows ri naming ones zero l = record { new = rows; flat = ri; is = rows_none r inv field w rows }
     clear_exists rows ri naming ones (suc n) l =
         let s = clear_exists rows ri naming ones n (omega (arith, l)) in
@@ -210,7 +192,7 @@ module _ {E : Type 0} (r : RingOps E) (inv : E → Option E) (field : IsField r 
         record {
           new = c.new;
           flat = c.flat;
-          is = subst (λ k. AreCleared r w k rows c.new) next (rows_more r inv field w n posw slot rows mid c.new s.flat c.flat s.is (cleared_whole r inv field w n mid c.new c.is));
+          is = subst (λ k. AreCleared r w k rows c.new) next (rows_more r inv field w n posw slot rows mid c.new s.flat c.flat s.is c.is);
         }
 
   module _ (w : ℕ) (posw : 0 < w) where
@@ -219,15 +201,15 @@ module _ {E : Type 0} (r : RingOps E) (inv : E → Option E) (field : IsField r 
     standard_exists rows ri =
         let n = length rows in
         let s = settled_exist r inv field w n posw rows rows rows (record { images = ri; lefts = ri; inverses = ri; image_len = refl; left_len = refl; columns_len = refl }) in
-        let image = s.image in
-        let settled : IsUnsettled w (length image) (length image) s.slot image = subst (λ k. IsUnsettled w k k s.slot image) (sym s.rows.image_len) s.unsettled in
+        let image = s.made.image in
+        let settled : IsUnsettled w (length image) (length image) s.slot image = subst (λ k. IsUnsettled w k k s.slot image) (sym s.made.rows.image_len) s.unsettled in
         let above = longest r image in
-        let leads = leading_exists image s.rows.images (settled_apart w s.slot image settled r) above.0 in
-        let list = leads.list in
+        let leads = leading_exists image s.made.rows.images (settled_apart w s.slot image settled r) above.0 in
+        let list = leads.new in
         let names = naming_exists w posw list (leading_places w s.slot image settled r above.0 list leads.is) in
         let c = clear_exists w posw names.0 list leads.flat names.1 (λ k l. (leads.is.source k l).is.multiple.one) (length list) (omega arith) in (
           c.new,
-          standard_basis r inv field w posw rows image rows rows s.left s.columns list c.new s.slot above.0 ri c.flat leads.flat s.turned settled leads.is above.1 c.is,
+          standard_basis r inv field w posw rows image rows rows s.made.left s.made.columns list c.new s.slot above.0 ri c.flat leads.flat s.made.turned settled leads.is above.1 c.is,
         )
 
     -- the identity
@@ -249,14 +231,14 @@ module _ {E : Type 0} (r : RingOps E) (inv : E → Option E) (field : IsField r 
         let flat : are_flat r ids ≡ true = flat_first r n unit_row (λ i. canonical-list_of r (suc i) (unit_at r i) (λ t _. unit_in i t)) in
         let unit_is : (i t : ℕ) → i < n → entry r ids i t ≡ unit_at r i t = λ i t l. ap (λ u. coeff r u t) (at-first_values n unit_row i [] l) ∙ unit_row_is i t in
         let s = settled_exist r inv field w n posw m ids m (record { images = mi; lefts = flat; inverses = mi; image_len = refl; left_len = long; columns_len = refl }) in (
-          zero_rows s.image s.left n,
-          kernel_basis r inv field w m ids m s.image s.left s.columns s.slot posw mi flat s.rows.images s.rows.lefts long s.rows.image_len unit_is s.unsettled s.turned,
+          zero_rows s.made.image s.made.left n,
+          kernel_basis r inv field w m ids m s.made.image s.made.left s.made.columns s.slot posw mi flat s.made.rows.images s.made.rows.lefts long s.made.rows.image_len unit_is s.unsettled s.made.turned,
         )
 
   -- There is a standard basis of the relations of the rows.
   pub relations_exist : (w : ℕ) → 0 < w → (m : List (List E)) → are_flat r m ≡ true → (basis : List (List E)) × IsStandardBasis r (length m) (IsRelationOf r w m) basis
   relations_exist w posw m mi = elim (same_or_other (length m) 0) [
-    | inl e ↦ ([], no_relations r ring w m (empty m e))
+    | inl e ↦ ([], no_relations r ring w m (empty_row m e))
     | inr ne ↦
         let posn : 0 < length m = omega (arith, ne) in
         let found = kernel_exists w posw m mi in
@@ -265,27 +247,10 @@ module _ {E : Type 0} (r : RingOps E) (inv : E → Option E) (field : IsField r 
   ]
 
   module _ (w : ℕ) (posw : 0 < w) where
-    -- rows of polynomials for which flat rows stand
-    rows_exist : (flats : List (List E)) → are_flat r flats ≡ true → (rows : List (List (List E))) × StandFor r w rows flats
-    rows_exist flats fi =
-        let n = length flats in
-        let row : ℕ → List (List E) = λ i. row_for r ring w posw (row_at flats i) in
-        let rows = first_values n row in
-        let long : length rows ≡ n = length-first_values n row in
-        let here : (i : ℕ) → i < length rows → row_at rows i ≡ row i = λ i l. at-first_values n row i [] (omega (arith, l, long)) in (
-          rows,
-          record {
-            count = sym long;
-            shape = rows_by_places (p r) w rows (λ i l. ap (is_row (p r) w) (here i l) ∙ row_for_shape r ring w posw (row_at flats i) (flat_at r flats fi i));
-            flat = fi;
-            is = λ i t l. row_for_is r ring w posw (row_at flats i) (flat_at r flats fi i) t ∙ ap (λ v. member r w v t) (sym (here i l));
-          },
-        )
-
     -- There is a standard basis of the module of rows of polynomials.
     pub row_basis_exists : (m : List (List (List E))) → are_rows (p r) w m ≡ true → (basis : List (List (List E))) × IsStandardRowBasis r w (IsInRows (p r) w m) basis
     row_basis_exists m shape =
         let flat = flats_exist r ring w posw m shape in
         let found = standard_exists w posw flat.0 flat.1.flat in
-        let rows = rows_exist found.0 found.1.basis.shape in
+        let rows = rows_exist r ring w posw found.0 found.1.basis.shape in
         (rows.0, basis_from r inv field w posw m flat.0 flat.1 rows.0 found.0 rows.1 found.1)

@@ -1,64 +1,22 @@
 -- Combinations of relations are relations, so the standard basis of the kernel's module is that of the relations.
-use Rattle.std.proofs.Common.{◌≡◌, ℕ, zero, suc, ◌+◌, ◌-◌, ◌*◌, ◌/◌, ◌%◌, ◌<◌, ◌≤◌, true, List, [], ◌∷◌, length, nat_lt, refl, sym, ◌∙◌, ap, ap₂, arith, ltb-true, ltb-false}
+use Rattle.std.proofs.Common.{◌≡◌, ℕ, ◌+◌, ◌*◌, ◌/◌, ◌%◌, ◌<◌, ◌≤◌, true, List, [], ◌∷◌, length, nat_lt, refl, sym, ◌∙◌, ap, arith, ltb-true, ltb-false}
+use Rattle.std.proofs.Math.Nat.{mul-le-mul_right, div-le_self}
 use Rattle.std.proofs.lemmas.Bool.{and_from}
-use Rattle.ring_core.specs.Ring.{RingOps, IsElem, IsRing}
+use Rattle.ring_core.specs.Ring.{RingOps, IsRing}
 use Rattle.ring_core.specs.Coeffs.{coeff, is_canonical}
 use Rattle.ring_core.proofs.Carrier.{RingOn, Element, elements, same_element, zero_mul, mul_zero}
 use Rattle.ring_core.proofs.Coefficients.{coeff_past}
 use Rattle.linear_algebra.specs.Linear.{row_at, entry}
-use Rattle.linear_algebra.proofs.Sums.{combine, total_same, total_zero, combine_add, combine_scale, by_bool}
-use Rattle.linear_algebra.proofs.Lift.{row_of, rows_of}
+use Rattle.linear_algebra.proofs.Sums.{combine, combine_same, total_zero, by_bool}
+use Rattle.linear_algebra.proofs.Lift.{rows_of}
 use Rattle.flat_modules.specs.Flat.{are_flat, IsBasis, IsStandardBasis, IsInModule, IsRelationOf}
-use Rattle.flat_modules.proofs.Lists.{flat_at, flat_in, to_reached}
-use Rattle.flat_modules.proofs.Shift.{shift, powers, shift_is, combine_powers}
-use Rattle.flat_modules.proofs.Product.{combine_more}
+use Rattle.flat_modules.proofs.Lists.{flat_at, flat_in, longest, to_reached}
+use Rattle.flat_modules.proofs.Shift.{powers, shift_zero}
+use Rattle.flat_modules.proofs.Product.{flat_assoc}
 use Rattle.flat_modules.proofs.Unique.{Reached}
-use Rattle.flat_modules.proofs.Module.{Past, past_rows}
-use Rattle.flat_reduce.proofs.KernelRows.{times_value}
-
-module _ {M : Type 0} (R : RingOn M) (n w : ℕ) (posn : 0 < n) (m : ℕ → ℕ → M) where
-  -- `x` gives zero over the rows, at all bounds from some on
-  pub record Kills (x : ℕ → M) : Type 0 where
-    pub bound : ℕ
-    pub zero : (b t : ℕ) → bound ≤ b → combine R b x (powers R n w m) t ≡ R.zero
-
-  kills_zero : (x : ℕ → M) → ((k : ℕ) → x k ≡ R.zero) → Kills x
-  kills_zero x z = record { bound = 0; zero = λ b t _. total_zero R b _ (λ i _. ap (λ a. R.mul a (powers R n w m i t)) (z i) ∙ zero_mul R _) }
-
-  kills_add : (x y : ℕ → M) → Kills x → Kills y → Kills (λ k. R.add (x k) (y k))
-  kills_add x y s u = record {
-    bound = s.bound + u.bound;
-    zero = λ b t l. combine_add R b x y (powers R n w m) t ∙ ap₂ R.add (s.zero b t (omega (arith, l))) (u.zero b t (omega (arith, l))) ∙ R.zero_add R.zero;
-  }
-
-  kills_scale : (a : M) (x : ℕ → M) → Kills x → Kills (λ k. R.mul a (x k))
-  kills_scale a x s = record { bound = s.bound; zero = λ b t l. combine_scale R b a x (powers R n w m) t ∙ ap (R.mul a) (s.zero b t l) ∙ mul_zero R a }
-
-  kills_shift : (e : ℕ) (x : ℕ → M) → Kills x → Kills (shift R (e * n) x)
-  kills_shift e x s = record {
-    bound = e * n + s.bound;
-    zero = λ b t l.
-        let c = b - e * n in
-        let whole : b ≡ e * n + c = omega (arith, l) in
-        ap (λ k. combine R k (shift R (e * n) x) (powers R n w m) t) whole ∙ combine_powers R n w e c m x t posn
-        ∙ shift_is R (e * w) (combine R c x (powers R n w m)) t R.zero (λ _. refl) (λ _. s.zero c (t - e * w) (omega (arith, l)));
-  }
-
-  kills_as : (x y : ℕ → M) → ((k : ℕ) → y k ≡ x k) → Kills x → Kills y
-  kills_as x y e s = record { bound = s.bound; zero = λ b t l. total_same R b _ _ (λ i _. ap (λ a. R.mul a (powers R n w m i t)) (e i)) ∙ s.zero b t l }
-
-  module _ (count : ℕ) (rows : ℕ → ℕ → M) (past : Past R n count rows) (each : (i : ℕ) → i < count → Kills (rows i)) where
-    kills_power : (k : ℕ) → Kills (powers R count n rows k)
-    kills_power k = by_bool (nat_lt (k % count) count)
-        (λ v. kills_shift (k / count) (rows (k % count)) (each (k % count) (ltb-true (k % count) count v)))
-        (λ v. kills_zero _ (λ t. shift_is R (k / count * n) (rows (k % count)) t R.zero (λ _. refl) (λ _. past (k % count) _ (ltb-false (k % count) count v))))
-
-    kills_sum : (b : ℕ) (c : ℕ → M) → Kills (combine R b c (powers R count n rows))
-    kills_sum zero c = kills_zero _ (λ k. refl)
-    kills_sum (suc b) c = kills_add _ _ (kills_sum b c) (kills_scale (c b) _ (kills_power b))
-
-    pub kills_reached : (x : ℕ → M) → Reached R count n rows x → Kills x
-    kills_reached x s = kills_as (combine R s.bound s.by (powers R count n rows)) x s.is (kills_sum s.bound s.by)
+use Rattle.flat_modules.proofs.Module.{past_rows}
+use Rattle.flat_reduce.proofs.KernelRows.{times_bound}
+use Rattle.flat_reduce.proofs.Settling.{empty_row}
 
 module _ {E : Type 0} (r : RingOps E) (h : IsRing r) (w : ℕ) where
   abbrev R : RingOn (Element r)
@@ -75,7 +33,7 @@ module _ {E : Type 0} (r : RingOps E) (h : IsRing r) (w : ℕ) where
         len = refl;
         polys = refl;
         is = λ t. ap (λ u. coeff r u t) (p.none e);
-        only = λ other l _ _. none other l;
+        only = λ other l _ _. empty_row other l;
       };
     };
     standard = record {
@@ -85,10 +43,6 @@ module _ {E : Type 0} (r : RingOps E) (h : IsRing r) (w : ℕ) where
       clear = λ i k e l b ne. absurd (omega arith);
     };
   }
-    where
-      none : (u : List (List E)) → length u ≡ 0 → u ≡ []
-      none [] l = refl
-      none (y ∷ ys) l = absurd (omega arith)
 
   module _ (m found new : List (List E)) (posn : 0 < length m) (mi : are_flat r m ≡ true) (basis : IsBasis r (length m) (IsRelationOf r w m) found) where
     abbrev n : ℕ
@@ -97,25 +51,39 @@ module _ {E : Type 0} (r : RingOps E) (h : IsRing r) (w : ℕ) where
     abbrev rows : ℕ → ℕ → Element r
     rows = rows_of r (entry r m) (flat_in r h m mi)
 
-    list_kills : (c : List E) (ci : (k : ℕ) → IsElem r (coeff r c k)) → IsRelationOf r w m c → Kills R n w posn rows (row_of r (coeff r c) ci)
-    list_kills c ci s = record {
-      bound = length c;
-      zero = λ b t l. combine_more R (length c) b (row_of r (coeff r c) ci) (powers R n w rows) t l (λ k far. same_element r _ _ (coeff_past r c k far))
-          ∙ same_element r _ _ (times_value r h n w c ci (entry r m) (flat_in r h m mi) t ∙ s.zero t);
-    }
+    abbrev V : ℕ → ℕ → Element r
+    V = rows_of r (entry r found) (flat_in r h found basis.shape)
+
+    abbrev len : ℕ
+    len = (longest r found).0
+
+    ends : (j t : ℕ) → len ≤ t → V j t ≡ R.zero
+    ends j t far = let l = (longest r found).1 j in same_element r _ _ (coeff_past r (row_at found j) t (omega (arith, l, far)))
+
+    -- each row, and what is past them, gives zero over the rows
+    gone : (j t : ℕ) → combine R len (V j) (powers R n w rows) t ≡ R.zero
+    gone j t = by_bool (nat_lt j (length found))
+        (λ b. same_element r _ _ (sym (times_bound r h n w len (row_at found j) (flat_in r h found basis.shape j) (ends j) (entry r m) (flat_in r h m mi) t) ∙ (basis.within j (ltb-true j (length found) b)).zero t))
+        (λ b. total_zero R len _ (λ k _. ap (λ a. R.mul a (powers R n w rows k t)) (past_rows r h n found (flat_in r h found basis.shape) j k (ltb-false j (length found) b)) ∙ zero_mul R _))
 
     relation_of : (x : List E) → is_canonical r x ≡ true → IsInModule r n found x → IsRelationOf r w m x
     relation_of x xc s =
-        let fi = basis.shape in
+        let count = length found in
         let xi = flat_in r h (x ∷ []) (and_from _ _ xc refl) 0 in
-        let k = kills_reached R n w posn rows (length found) (rows_of r (entry r found) (flat_in r h found fi)) (past_rows r h n found (flat_in r h found fi))
-        (λ i l. list_kills (row_at found i) (flat_in r h found fi i) (basis.within i l)) (row_of r (coeff r x) xi) (to_reached r h n found s.by fi s.polys x xi s.is) in
+        let y = to_reached r h n found s.by basis.shape s.polys x xi s.is in
+        let big = y.bound * n + len + length x in
+        let fits : (k : ℕ) → k < y.bound → k / count * n + len ≤ big = λ k b.
+            let d = div-le_self k count in
+            let m = mul-le-mul_right {m = k / count} {n = y.bound} n (omega (arith, d, b)) in
+            omega (arith, m)
+        in
         record {
           none = λ e. absurd (let v = ap length e in omega (arith, v, posn));
           zero = λ t.
-              sym (times_value r h n w x xi (entry r m) (flat_in r h m mi) t)
-              ∙ ap (λ a. a.0) (sym (combine_more R (length x) (k.bound + length x) (row_of r (coeff r x) xi) (powers R n w rows) t (omega arith) (λ j far. same_element r _ _ (coeff_past r x j far)))
-              ∙ k.zero (k.bound + length x) t (omega arith));
+              times_bound r h n w big x xi (λ k far. same_element r _ _ (coeff_past r x k (omega (arith, far)))) (entry r m) (flat_in r h m mi) t
+              ∙ ap (λ a. a.0) (combine_same R big _ _ (powers R n w rows) t (λ k _. y.is k)
+              ∙ flat_assoc R count n w len posn V rows (λ k t far. ends (k % count) t far) big y.bound y.by t fits
+              ∙ total_zero R y.bound _ (λ k _. ap (R.mul (y.by k)) (shift_zero R (k / count * w) _ t (gone (k % count))) ∙ mul_zero R (y.by k)));
         }
 
     pub relations_basis : IsStandardBasis r n (IsInModule r n found) new → IsStandardBasis r n (IsRelationOf r w m) new

@@ -16,14 +16,6 @@ use Rattle.popov_basis.specs.steps.Leading.{IsLeading}
 use Rattle.flat_reduce.proofs.Reduced.{added_in}
 
 module _ {M : Type 0} (R : RingOn M) (w : ℕ) where
-  -- the rows told by their members
-  pub reached_rows : (n : ℕ) (a b : ℕ → ℕ → M) (x : ℕ → M) → ((i t : ℕ) → a i t ≡ b i t) → Reached R n w a x → Reached R n w b x
-  reached_rows n a b x e s = record {
-    bound = s.bound;
-    by = s.by;
-    is = λ t. s.is t ∙ total_same R s.bound _ _ (λ k _. ap (R.mul (s.by k)) (shift_same R (k / n * w) (a (k % n)) (b (k % n)) t (e (k % n))));
-  }
-
   pub reached_itself : (n : ℕ) (rows : ℕ → ℕ → M) (i : ℕ) → i < n → Reached R n w rows (rows i)
   reached_itself n rows i l = reached R n w rows (suc i) (rows i) (spans_row R n w rows (suc i) i l (omega arith))
 

@@ -11,9 +11,9 @@ use Rattle.linear_algebra.specs.Linear.{row_at, entry}
 use Rattle.linear_algebra.proofs.Sums.{by_bool, same_or_other}
 use Rattle.flat_modules.specs.Flat.{are_flat, lead_at, shifted}
 use Rattle.flat_modules.proofs.Lists.{flat_in}
-use Rattle.flat_reduce.specs.steps.Settled.{slot_of, total_len, IsUnsettled}
+use Rattle.flat_reduce.specs.steps.Settled.{slot_of, total_len, IsNamed, IsUnsettled}
 use Rattle.flat_reduce.specs.steps.Turns.{IsRowAdded, IsTurn, Turns, none, turn}
-use Rattle.flat_reduce.proofs.Pushed.{free_len, not_free}
+use Rattle.flat_reduce.proofs.Pushed.{unsettled_start}
 use Rattle.flat_reduce.proofs.RowSteps.{flat_set, inverse_of, has_inverse, turn_of, shorter_of, not_empty_len}
 use Rattle.flat_reduce.proofs.Settling.{rest_row, fewer_by_turn, unsettled_kept, unsettled_swapped, unsettled_placed, unsettled_done, unsettled_next, empty_row}
 
@@ -73,11 +73,8 @@ module _ {E : Type 0} (r : RingOps E) (inv : E → Option E) (field : IsField r 
   top_inverse rows q ri ne =
       let low = entry r rows q (lead_at rows q) in
       by_option (inv low)
-      (λ e. absurd (has_inverse r inv field rows q (length (row_at rows q)) low ri ne refl refl (flat_in r ring rows ri q (lead_at rows q)) (λ x f. never x (sym e ∙ f))))
+      (λ e. absurd (has_inverse r inv field rows q (length (row_at rows q)) low ri ne refl refl (flat_in r ring rows ri q (lead_at rows q)) (λ x f. let g : None ≡ Some x = sym e ∙ f in cc)))
       (λ x e. record { inverse = x; found = e })
-    where
-      never : (x : E) → None ≡ Some x → ⊥
-      never x e = cc
 
   module _ (w n : ℕ) (posw : 0 < w) where
     -- Three lists of `n` rows.
@@ -134,138 +131,120 @@ module _ {E : Type 0} (r : RingOps E) (inv : E → Option E) (field : IsField r 
         }
 
     module _ (m ids zeros : List (List E)) where
-      -- Rows that came about by turns, of which all up to `i` but row `p` are settled.
-      pub record HasRows (i p : ℕ) : Type 0 where
-        pub slot : List (Option ℕ)
+      -- Rows that came about by turns.
+      pub record HasTurned : Type 0 where
         pub image : List (List E)
         pub left : List (List E)
         pub columns : List (List E)
         pub rows : AreRows image left columns
-        pub unsettled : IsUnsettled w i p slot image
         pub turned : Turns r w n m ids zeros image left columns
+
+      -- Such rows, of which all up to `i` but row `p` are settled.
+      pub record HasRows (i p : ℕ) : Type 0 where
+        pub slot : List (Option ℕ)
+        pub made : HasTurned
+        pub unsettled : IsUnsettled w i p slot made.image
 
       -- What a step with row `p` leads to: row `i` is settled, or another row is left and the rows are shorter.
       record HasShorter (i p : ℕ) (s : HasRows i p) : Type 0 where
         left_row : ℕ
         within : left_row ≤ i
         rows : HasRows i left_row
-        fewer : total_len rows.image < total_len s.image
+        fewer : total_len rows.made.image < total_len s.made.image
 
       module _ (i p : ℕ) (s : HasRows i p) (lp : p ≤ i) (li : i < n) where
-        inside : lead_at s.image p % w < length s.slot
-        inside = let low = mod-lt (lead_at s.image p) posw in omega (arith, low, s.unsettled.len)
+        abbrev image : List (List E)
+        image = s.made.image
 
-        empty : length (row_at s.image p) ≡ 0 → HasRows i (i + 1)
-        empty e = record {
-          slot = s.slot;
-          image = s.image;
-          left = s.left;
-          columns = s.columns;
-          rows = s.rows;
-          unsettled = unsettled_done w i p s.slot s.image s.unsettled (empty_row (row_at s.image p) e);
-          turned = s.turned;
-        }
+        abbrev place : ℕ
+        place = lead_at image p % w
 
-        module _ (d : row_at s.image p ≢ []) where
-          placed : slot_of s.slot (lead_at s.image p % w) ≡ None → HasRows i (i + 1)
-          placed e = record {
-            slot = set s.slot (lead_at s.image p % w) (Some p);
-            image = s.image;
-            left = s.left;
-            columns = s.columns;
-            rows = s.rows;
-            unsettled = unsettled_placed w i p s.slot s.image s.unsettled (lead_at s.image p % w) inside lp d refl e;
-            turned = s.turned;
+        inside : place < length s.slot
+        inside = let low = mod-lt (lead_at image p) posw in omega (arith, low, s.unsettled.len)
+
+        module _ (d : row_at image p ≢ []) (q : ℕ) (e : slot_of s.slot place ≡ Some q) where
+          named : IsNamed w i p image place q
+          named = s.unsettled.names place q e
+
+          -- the rows after a turn of row `a` by row `b`
+          abbrev after : (a b : ℕ) → a < n → b < n → a ≢ b → HasTurn a b image s.made.left s.made.columns → HasTurned
+          after a b la lb ne t = record {
+            image = t.image2;
+            left = t.left2;
+            columns = t.columns2;
+            rows = t.rows;
+            turned = turn a b image s.made.left s.made.columns t.image2 t.left2 t.columns2 la lb ne s.made.turned t.is;
           }
 
+          others : (a b : ℕ) (t : HasTurn a b image s.made.left s.made.columns) → (k : ℕ) → k ≢ a → row_at t.image2 k ≡ row_at image k
+          others a b t k ne = rest_row r ring a b _ t.is.factor image t.image2 s.made.rows.images t.rows.images t.is.images k ne
+
+          lessened : (a b : ℕ) (t : HasTurn a b image s.made.left s.made.columns) → a < n → total_len t.image2 < total_len image
+          lessened a b t la = fewer_by_turn r ring w n a b image s.made.left s.made.columns t.image2 t.left2 t.columns2 s.made.rows.images t.rows.images (omega (arith, la, s.made.rows.image_len)) t.is t.shorter
+
           -- the shorter row is named, and the longer one is left
-          swapped : (q : ℕ) → slot_of s.slot (lead_at s.image p % w) ≡ Some q → length (row_at s.image p) < length (row_at s.image q) → HasShorter i p s
-          swapped q e less =
-              let named = s.unsettled.names (lead_at s.image p % w) q e in
+          swapped : length (row_at image p) < length (row_at image q) → HasShorter i p s
+          swapped less =
               let lq = named.within in
-              let t = turn_exists q p s.image s.left s.columns s.rows (omega (arith, lq, li)) (omega (arith, lp, li)) d (omega (arith, less)) named.place in
+              let a : q < n = omega (arith, lq, li) in
+              let b : p < n = omega (arith, lp, li) in
+              let t = turn_exists q p image s.made.left s.made.columns s.made.rows a b d (omega (arith, less)) named.place in
               record {
                 left_row = q;
                 within = lq;
                 rows = record {
-                  slot = set s.slot (lead_at s.image p % w) (Some p);
-                  image = t.image2;
-                  left = t.left2;
-                  columns = t.columns2;
-                  rows = t.rows;
-                  unsettled = unsettled_swapped w i p s.slot s.image s.unsettled (lead_at s.image p % w) inside lp d refl q t.image2 e (λ u. named.apart (sym u))
-                      (λ k ne. rest_row r ring q p _ t.is.factor s.image t.image2 s.rows.images t.rows.images t.is.images k ne);
-                  turned = turn q p s.image s.left s.columns t.image2 t.left2 t.columns2 (omega (arith, lq, li)) (omega (arith, lp, li)) named.apart s.turned t.is;
+                  slot = set s.slot place (Some p);
+                  made = after q p a b named.apart t;
+                  unsettled = unsettled_swapped w i p s.slot image s.unsettled place inside lp d refl q t.image2 e (λ u. named.apart (sym u)) (others q p t);
                 };
-                fewer = fewer_by_turn r ring w n q p s.image s.left s.columns t.image2 t.left2 t.columns2 s.rows.images t.rows.images (omega (arith, lq, li, s.rows.image_len)) t.is t.shorter;
+                fewer = lessened q p t a;
               }
 
-          kept : (q : ℕ) → slot_of s.slot (lead_at s.image p % w) ≡ Some q → length (row_at s.image q) ≤ length (row_at s.image p) → HasShorter i p s
-          kept q e more =
-              let named = s.unsettled.names (lead_at s.image p % w) q e in
+          kept : length (row_at image q) ≤ length (row_at image p) → HasShorter i p s
+          kept more =
               let lq = named.within in
-              let t = turn_exists p q s.image s.left s.columns s.rows (omega (arith, lp, li)) (omega (arith, lq, li)) named.nonzero more (sym named.place) in
+              let a : p < n = omega (arith, lp, li) in
+              let b : q < n = omega (arith, lq, li) in
+              let t = turn_exists p q image s.made.left s.made.columns s.made.rows a b named.nonzero more (sym named.place) in
               record {
                 left_row = p;
                 within = lp;
                 rows = record {
                   slot = s.slot;
-                  image = t.image2;
-                  left = t.left2;
-                  columns = t.columns2;
-                  rows = t.rows;
-                  unsettled = unsettled_kept w i p s.slot s.image s.unsettled t.image2
-                      (λ k ne. rest_row r ring p q _ t.is.factor s.image t.image2 s.rows.images t.rows.images t.is.images k ne);
-                  turned = turn p q s.image s.left s.columns t.image2 t.left2 t.columns2 (omega (arith, lp, li)) (omega (arith, lq, li)) (λ u. named.apart (sym u)) s.turned t.is;
+                  made = after p q a b (λ u. named.apart (sym u)) t;
+                  unsettled = unsettled_kept w i p s.slot image s.unsettled t.image2 (others p q t);
                 };
-                fewer = fewer_by_turn r ring w n p q s.image s.left s.columns t.image2 t.left2 t.columns2 s.rows.images t.rows.images (omega (arith, lp, li, s.rows.image_len)) t.is t.shorter;
+                fewer = lessened p q t a;
               }
 
         step : HasRows i (i + 1) ⊎ HasShorter i p s
-        step = elim (same_or_other (length (row_at s.image p)) 0) [
-          | inl e ↦ inl (empty e)
+        step = elim (same_or_other (length (row_at image p)) 0) [
+          | inl e ↦ inl (record { slot = s.slot; made = s.made; unsettled = unsettled_done w i p s.slot image s.unsettled (empty_row (row_at image p) e) })
           | inr d ↦
-              let some : row_at s.image p ≢ [] = λ z. d (ap length z) in
-              by_option (slot_of s.slot (lead_at s.image p % w))
-              (λ e. inl (placed some e))
-              (λ q e. by_bool (nat_lt (length (row_at s.image p)) (length (row_at s.image q)))
+              let some : row_at image p ≢ [] = λ z. d (ap length z) in
+              by_option (slot_of s.slot place)
+              (λ e. inl (record { slot = set s.slot place (Some p); made = s.made; unsettled = unsettled_placed w i p s.slot image s.unsettled place inside lp some refl e }))
+              (λ q e. by_bool (nat_lt (length (row_at image p)) (length (row_at image q)))
               (λ b. inr (swapped some q e (ltb-true _ _ b)))
               (λ b. inr (kept some q e (ltb-false _ _ b))))
         ]
 
       -- row `i` is settled by steps, each of which makes the rows shorter
-      settled : (fuel i p : ℕ) (s : HasRows i p) → total_len s.image < fuel → p ≤ i → i < n → HasRows i (i + 1)
+      settled : (fuel i p : ℕ) (s : HasRows i p) → total_len s.made.image < fuel → p ≤ i → i < n → HasRows i (i + 1)
       settled zero i p s few lp li = absurd (omega (arith, few))
       settled (suc fuel) i p s few lp li = elim (step i p s lp li) [
         | inl done ↦ done
         | inr t ↦ let fewer = t.fewer in settled fuel i t.left_row t.rows (omega (arith, fewer, few)) t.within li
       ]
 
-      next : (i : ℕ) → HasRows i (i + 1) → HasRows (i + 1) (i + 1)
-      next i t = record {
-        slot = t.slot;
-        image = t.image;
-        left = t.left;
-        columns = t.columns;
-        rows = t.rows;
-        unsettled = unsettled_next w i t.slot t.image t.unsettled;
-        turned = t.turned;
-      }
-
       -- all rows up to the last
       settled_to : AreRows m ids zeros → (i : ℕ) → i ≤ n → HasRows i i
-      settled_to rows zero l = record {
-        slot = replicate w None;
-        image = m;
-        left = ids;
-        columns = zeros;
-        rows = rows;
-        unsettled = record { len = free_len w; names = λ j q e. absurd (not_free w j q e); all = λ k low ne nz. absurd (ne (omega (arith, low))) };
-        turned = none;
-      }
+      settled_to rows zero l =
+          record { slot = replicate w None; made = record { image = m; left = ids; columns = zeros; rows = rows; turned = none }; unsettled = unsettled_start w (replicate w None) m refl }
       settled_to rows (suc i) l =
           let s = settled_to rows i (omega (arith, l)) in
-          subst (λ j. HasRows j j) (add-one i) (next i (settled (suc (total_len s.image)) i i s (omega arith) (omega arith) (omega (arith, l))))
+          let t = settled (suc (total_len s.made.image)) i i s (omega arith) (omega arith) (omega (arith, l)) in
+          subst (λ j. HasRows j j) (add-one i) (record { slot = t.slot; made = t.made; unsettled = unsettled_next w i t.slot t.made.image t.unsettled })
 
       pub settled_exist : AreRows m ids zeros → HasRows n n
       settled_exist rows = settled_to rows n (omega arith)

@@ -1,40 +1,33 @@
 -- The rows that were settled, divided by their tops, sorted and cleared are the standard basis of their module.
-use Rattle.std.proofs.Common.{◌≡◌, ◌≢◌, ℕ, ◌+◌, ◌-◌, ◌*◌, ◌%◌, ◌<◌, ◌≤◌, true, Option, List, [], ◌∷◌, length, nat_lt, refl, sym, ◌∙◌, ap, arith, lt-ltb, ltb-true, ltb-false}
+use Rattle.std.proofs.Common.{◌≡◌, ◌≢◌, ℕ, ◌+◌, ◌-◌, ◌*◌, ◌%◌, ◌<◌, ◌≤◌, true, Option, List, [], ◌∷◌, length, nat_lt, inl, inr, refl, sym, ◌∙◌, ap, subst, arith, lt-ltb, ltb-true, ltb-false}
+use mathlib.Core.Path.{fun_ext}
 use Rattle.std.proofs.lemmas.Bool.{and_from}
 use Rattle.ring_core.specs.Ring.{RingOps, IsRing}
 use Rattle.ring_core.specs.Field.{IsField}
 use Rattle.ring_core.proofs.Carrier.{RingOn, Element, elements, same_element}
 use Rattle.linear_algebra.specs.Linear.{row_at, entry}
-use Rattle.linear_algebra.proofs.Sums.{by_bool}
+use Rattle.linear_algebra.proofs.Sums.{by_bool, same_or_other}
 use Rattle.linear_algebra.proofs.Lift.{AllIn, rows_of}
 use Rattle.linear_algebra.proofs.Dependent.{field_domain}
 use Rattle.flat_modules.specs.Flat.{are_flat, lead_at, IsStandard, IsStandardBasis, IsInModule}
-use Rattle.flat_modules.proofs.Lists.{flat_in, row_past, to_reached}
-use Rattle.flat_modules.proofs.Unique.{standard_places}
+use Rattle.flat_modules.proofs.Lists.{flat_in, to_reached}
+use Rattle.flat_modules.proofs.Unique.{Reached, standard_places}
 use Rattle.flat_modules.proofs.OneBasis.{to_standard}
 use Rattle.flat_modules.proofs.Only.{only_combination}
-use Rattle.flat_modules.proofs.Module.{reached_as, from_reached}
-use Rattle.flat_reduce.specs.steps.Settled.{slot_of}
+use Rattle.flat_modules.proofs.Module.{from_reached}
 use Rattle.flat_reduce.specs.steps.Turns.{Turns}
 use Rattle.flat_reduce.specs.steps.Settled.{IsUnsettled}
 use Rattle.popov_basis.specs.steps.Leading.{IsLeading, AreCleared}
-use Rattle.flat_reduce.proofs.Settling.{some_same}
-use Rattle.popov_basis.proofs.SameModule.{Reaches, SameModule, reached_rows, reaches_all, same_turns, leading_into, leading_back}
+use Rattle.flat_reduce.proofs.Reduced.{different_places}
+use Rattle.popov_basis.proofs.SameModule.{Reaches, SameModule, reaches_all, same_turns, leading_into, leading_back}
 
 -- settled rows of equal length are the same row
 module _ {E : Type 0} (w : ℕ) (slot : List (Option ℕ)) (image : List (List E)) (settled : IsUnsettled w (length image) (length image) slot image) where
-  inside : RingOps E → (k : ℕ) → 0 < length (row_at image k) → k < length image
-  inside r k l = by_bool (nat_lt k (length image))
-      (λ b. ltb-true k (length image) b)
-      (λ b. let past : length image ≤ k = ltb-false k (length image) b in let e = ap length (row_past r image k past) in absurd (omega (arith, e, l)))
-
   pub same_row : RingOps E → (i k : ℕ) → 0 < length (row_at image i) → 0 < length (row_at image k) → lead_at image i % w ≡ lead_at image k % w → i ≡ k
-  same_row r i k li lk e =
-      let a = inside r i li in
-      let b = inside r k lk in
-      some_same i k
-      (sym (settled.all i (omega (arith, a)) (λ u. omega (arith, u, a)) (λ z. let v = ap length z in omega (arith, v, li))) ∙ ap (slot_of slot) e
-      ∙ settled.all k (omega (arith, b)) (λ u. omega (arith, u, b)) (λ z. let v = ap length z in omega (arith, v, lk)))
+  same_row r i k li lk e = elim (same_or_other i k) [
+    | inl q ↦ q
+    | inr ne ↦ absurd (different_places r w (length image) slot image refl settled i k (λ z. let v = ap length z in omega (arith, v, li)) (λ z. let v = ap length z in omega (arith, v, lk)) ne e)
+  ]
 
   pub settled_apart : RingOps E → (i k : ℕ) → i ≢ k → 0 < length (row_at image i) → length (row_at image i) ≢ length (row_at image k)
   settled_apart r i k ne l e = ne (same_row r i k l (omega (arith, l, e)) (ap (λ n. (n - 1) % w) e))
@@ -123,12 +116,9 @@ module _ {E : Type 0} (r : RingOps E) (inv : E → Option E) (field : IsField r 
           ap (λ n. entry r new i (n + e * w)) (leads_same k) ∙ cleared.clear i k e (omega (arith, bi, count)) (omega (arith, bk, count)) (λ q. ne (sym q));
     }
 
-    same_members : (i t : ℕ) → rows_of r (entry r new) last.bi i t ≡ rows_of r (entry r new) (flat_in r ring new ni) i t
-    same_members i t = same_element r _ _ refl
-
     pub standard_basis : IsStandardBasis r w (IsInModule r w rows) new
-    standard_basis = is_basis rows new ri ni standard
-        (λ i l. reached_as S w (length rows) (rows_of r (entry r rows) rows_in) (rows_of r (entry r new) last.bi i) _ (λ t. sym (same_members i t))
-        (reaches_all r ring w rows list rows_in list_in list_into _ (last.into i l)))
-        (λ i l. reached_rows S w (length new) (rows_of r (entry r new) last.bi) (rows_of r (entry r new) (flat_in r ring new ni)) _ same_members
-        (reaches_all r ring w new list last.bi list_in last.back _ (list_back i l)))
+    standard_basis =
+        let same : rows_of r (entry r new) last.bi ≡ rows_of r (entry r new) (flat_in r ring new ni) = fun_ext (λ i. fun_ext (λ t. same_element r _ _ refl)) in
+        is_basis rows new ri ni standard
+        (λ i l. subst (λ v. Reached S (length rows) w (rows_of r (entry r rows) rows_in) (v i)) same (reaches_all r ring w rows list rows_in list_in list_into _ (last.into i l)))
+        (λ i l. subst (λ v. Reached S (length new) w v (rows_of r (entry r rows) rows_in i)) same (reaches_all r ring w new list last.bi list_in last.back _ (list_back i l)))

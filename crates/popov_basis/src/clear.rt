@@ -5,7 +5,7 @@ ghost use Rattle.ring_core.specs.Coeffs.{coeff, is_canonical};
 ghost use Rattle.linear_algebra.specs.Linear.{row_at, entry};
 ghost use Rattle.flat_modules.specs.Flat.{are_flat, lead_at};
 ghost use Rattle.flat_reduce.specs.steps.Settled.{slot_of};
-ghost use Rattle.popov_basis.specs.steps.Leading.{IsNaming, IsClearedAt, IsCleared, AreCleared};
+ghost use Rattle.popov_basis.specs.steps.Leading.{IsNaming, IsClearedAt, IsClearedFrom, AreCleared};
 
 use flat_reduce::rows::add_row;
 use fq_poly::Poly;
@@ -76,7 +76,7 @@ fn clear_row<F: Field>(
     requires ones { (k : ℕ) → k < length rows.old → entry (F.ops f.now) rows.old k (lead_at rows.old k) ≡ (F.ops f.now).one }
     requires first { p < length rows.old }
     ensures flat { IfOk result (λ _. are_flat (F.ops f.now) rows.new ≡ true) }
-    ensures cleared { IfOk result (λ _. IsCleared (F.ops f.now) w p rows.old rows.new) }
+    ensures cleared { IfOk result (λ _. IsClearedFrom (F.ops f.now) w p 0 rows.old rows.new) }
 {
     for t in (0..rows[p].len() - 1).rev() {
         clear_at(alloc, f, w, slot, rows, p, t)?;

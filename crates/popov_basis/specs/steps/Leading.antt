@@ -61,13 +61,13 @@ pub record IsClearedAt {E : Type 0} (r : RingOps E) (w p t : ℕ) (rows new : Li
   pub clear : (j e : ℕ) → j < length rows → t ≡ lead_at rows j + e * w → entry r new p t ≡ r.zero
   pub turned : Turns r w (length rows) rows [] [] new [] []
 
--- Row `p` was cleared by the other rows; its lead is the same, as are the other rows.
-pub record IsCleared {E : Type 0} (r : RingOps E) (w p : ℕ) (rows new : List (List E)) : Type 0 where
+-- Row `p` was cleared by the other rows at the places from `t` on; its lead is the same, as are the other rows.
+pub record IsClearedFrom {E : Type 0} (r : RingOps E) (w p t : ℕ) (rows new : List (List E)) : Type 0 where
   pub len : length new ≡ length rows
   pub lens : (k : ℕ) → length (row_at new k) ≡ length (row_at rows k)
   pub others : (k : ℕ) → k ≢ p → row_at new k ≡ row_at rows k
   pub one : entry r new p (lead_at rows p) ≡ entry r rows p (lead_at rows p)
-  pub clear : (j e : ℕ) → j < length rows → j ≢ p → entry r new p (lead_at rows j + e * w) ≡ r.zero
+  pub clear : (j e : ℕ) → j < length rows → j ≢ p → t ≤ lead_at rows j + e * w → entry r new p (lead_at rows j + e * w) ≡ r.zero
   pub turned : Turns r w (length rows) rows [] [] new [] []
 
 -- All rows below `m` were cleared.

@@ -1,6 +1,7 @@
 use Rattle.std.proofs.Common.{◌≡◌, ◌+◌, ◌-◌, sym, subst, arith}
 use Rattle.flat_reduce.proofs.Reading.{read_len}
-use Rattle.popov_basis.proofs.Clearing.{IsClearedFrom, clear_start, clear_more}
+use Rattle.popov_basis.specs.steps.Leading.{IsClearedFrom}
+use Rattle.popov_basis.proofs.Clearing.{clear_start, clear_more}
 use Rattle.popov_basis.proofs.clear.clear_row.Goals as goal
 
 pub loop-t-init : goal.loop-t-init

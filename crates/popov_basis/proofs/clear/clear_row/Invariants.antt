@@ -1,6 +1,6 @@
 use Rattle.std.proofs.Common.{◌≡◌, true}
 use Rattle.flat_modules.specs.Flat.{are_flat}
-use Rattle.popov_basis.proofs.Clearing.{IsClearedFrom}
+use Rattle.popov_basis.specs.steps.Leading.{IsClearedFrom}
 use Rattle.popov_basis.proofs.clear.clear_row.Given as goal
 
 abbrev pub invariant-loop-t : goal.invariant-loop-t

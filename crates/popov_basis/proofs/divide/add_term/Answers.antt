@@ -1,10 +1,10 @@
-use Rattle.std.proofs.Common.{[], ◌∷◌, set, length-set, ap, ap₂, ◌∙◌, arith}
+use Rattle.std.proofs.Common.{[], ◌∷◌, set, length-set, get_or-set_same, get_or-set_other, ap, ap₂, ◌∙◌, arith}
 use Rattle.ring_core.specs.Coeffs.{coeff, is_canonical}
 use Rattle.flat_modules.specs.Flat.{shifted}
 use Rattle.flat_reduce.proofs.Reading.{read_elems}
 use Rattle.flat_reduce.proofs.RowSteps.{flat_set}
 use Rattle.flat_reduce.proofs.Reading.{read_coeff}
-use Rattle.popov_basis.proofs.Dividing.{one_at, row_here, row_apart}
+use Rattle.popov_basis.proofs.Dividing.{one_at}
 use Rattle.popov_basis.proofs.divide.add_term.Goals as goal
 
 pub add_shifted-requires-clause-list : goal.add_shifted-requires-clause-list
@@ -31,9 +31,9 @@ returns-clause-added g c =
     record {
       len = b ∙ a;
       here = λ s.
-          ap (λ u. coeff r u s) (row_here half q x (omega (arith, a, c.requires.number)) ∙ c.from_vec-2.ensures) ∙ c.in_ok-sum.ensures.added s
+          ap (λ u. coeff r u s) (get_or-set_same half q x [] (omega (arith, a, c.requires.number)) ∙ c.from_vec-2.ensures) ∙ c.in_ok-sum.ensures.added s
           ∙ ap₂ (λ y z. r.add y (r.mul c.args.c z))
           (read_coeff r by q s _ c.index-by-q.result c.requires.number (c.into_vec.ensures ∙ c.replace-row.ensures.value))
           (ap (λ u. shifted r c.args.e (coeff r u) s) (c.deref.ensures.value ∙ c.in_ok-one.ensures ∙ ap (λ o. o ∷ []) c.one.ensures.value) ∙ one_at r ring c.args.e s);
-      others = λ i s ne. ap (λ u. coeff r u s) (row_apart half q i x ne ∙ row_apart by q i c.replace-row.new.dest ne);
+      others = λ i s ne. ap (λ u. coeff r u s) (get_or-set_other half q i x [] ne ∙ get_or-set_other by q i c.replace-row.new.dest [] ne);
     }
