@@ -55,3 +55,8 @@ modulus_of p s q w modulus is listed positive count small len elems top =
       elems = elems;
       monic = ap (coeff (prime_ops p) modulus) place ∙ top;
     })
+
+pub count_of : (p s q : ℕ) (w modulus : List ℕ) → w ≡ modulus → length modulus ≡ s + 1 → q ≡ p ^ s → q ≡ p ^ (length w - 1)
+count_of p s q w modulus is len count =
+    let place : s ≡ length modulus - 1 = omega arith in
+    count ∙ ap (λ n. p ^ n) (place ∙ ap (λ u. length u - 1) (sym is))

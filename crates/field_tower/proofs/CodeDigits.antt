@@ -1,5 +1,5 @@
 -- Codes and their digits, as code makes them.
-use Rattle.std.proofs.Common.{◌≡◌, inl, inr, ℕ, suc, ◌+◌, ◌-◌, ◌*◌, ◌^◌, ◌/◌, ◌<◌, ◌≤◌, true, List, length, slice_index, sym, ap, ap₂, subst, ◌∙◌, arith, lt-ltb, ltb-true, pow-suc, mul-le-mul_right, div-lt_iff_lt-mul}
+use Rattle.std.proofs.Common.{◌≡◌, inl, inr, ℕ, suc, ◌+◌, ◌-◌, ◌*◌, ◌^◌, ◌/◌, ◌<◌, ◌≤◌, List, length, slice_index, sym, ap, ap₂, subst, ◌∙◌, arith, lt-ltb, ltb-true, pow-suc, mul-le-mul_right, div-lt_iff_lt-mul}
 use Rattle.std.proofs.lemmas.Bool.{cases_lt}
 use native.Mathlib.Nat.{pow-le-pow_right}
 use mathlib.Core.Path.{fun_ext}
@@ -7,13 +7,15 @@ use Rattle.ring_core.specs.Ring.{IsElem}
 use Rattle.ring_core.proofs.Coefficients.{elem_read}
 use Rattle.residue_field.specs.declared.TopElem.{TopElem}
 use Rattle.residue_field.specs.declared.TheConstants.{WIDTH}
-use Rattle.residue_field.specs.Prime.{is_listed, prime_ops}
+use Rattle.residue_field.specs.Prime.{prime_ops}
 use Rattle.residue_field.specs.Digits.{digit, number}
 use Rattle.residue_field.proofs.Modular.{prime_ring}
 use Rattle.residue_field.proofs.Listed.{listed_large}
 use Rattle.residue_field.proofs.DigitLaws.{number-same, digit_below, digit_past}
 use Rattle.residue_field.proofs.TopPlaces.{elems_of}
-use Rattle.field_tower.specs.steps.Places.{IsModulus, IsStored, stored, stored_ops}
+use Rattle.field_tower.specs.declared.codes.Codes.{Codes}
+use Rattle.field_tower.specs.steps.Places.{IsStored, stored, stored_ops}
+use Rattle.field_tower.proofs.CodeForms.{codes_degree}
 use Rattle.field_tower.proofs.Stored.{stored_from, stored_in, stored-low, fits_of, elem_of, stored_of}
 
 -- one more digit below the digits from place i on
@@ -55,7 +57,13 @@ power_passes p s i q limit positive base is later passes =
     swap : (a b : ℕ) → a * b ≡ b * a
     swap a b = omega arith
 
-module _ (p : ℕ) (listed : is_listed p ≡ true) (modulus : List ℕ) (monic : IsModulus (prime_ops p) modulus) where
+module _ (k : Codes) where
+  abbrev p : ℕ
+  p = k.prime.p
+
+  abbrev modulus : List ℕ
+  modulus = k.modulus.now
+
   abbrev d : ℕ
   d = length modulus - 2
 
@@ -63,21 +71,21 @@ module _ (p : ℕ) (listed : is_listed p ≡ true) (modulus : List ℕ) (monic :
   n = length modulus - 1
 
   large : 1 < p
-  large = listed_large p listed
+  large = listed_large p k.prime.listed
 
   fits : suc d ≤ WIDTH
-  fits = fits_of (prime_ops p) (prime_ring p large) modulus monic
+  fits = fits_of (prime_ops p) (prime_ring p large) modulus k.monic
 
   size : n ≡ suc d
-  size = omega (arith, monic.degree)
+  size = codes_degree k
 
   -- n digits with zero past them are all digits of a number below p^n
-  pub digits_are : (t : TopElem) (c : ℕ) → c < p ^ n → ((i : ℕ) → i < n → slice_index t.0 i ≡ digit p c i) → ((i : ℕ) → n ≤ i → slice_index t.0 i ≡ 0)
+  pub digits_are : (t : TopElem) (c : ℕ) → c < k.q → ((i : ℕ) → i < n → slice_index t.0 i ≡ digit p c i) → ((i : ℕ) → n ≤ i → slice_index t.0 i ≡ 0)
       → (i : ℕ) → slice_index t.0 i ≡ digit p c i
   digits_are t c below low past i =
       elim (cases_lt i n) [
         | inl l ↦ low i l
-        | inr l ↦ past i l ∙ sym (digit_past p (omega (arith, large)) n c i below l)
+        | inr l ↦ past i l ∙ sym (digit_past p (omega (arith, large)) n c i (subst (λ m. c < m) k.count below) l)
       ]
 
   pub digits_stored : (t : TopElem) (c : ℕ) → length t.0 ≡ WIDTH → ((i : ℕ) → slice_index t.0 i ≡ digit p c i) → ((i : ℕ) → n ≤ i → slice_index t.0 i ≡ 0)
@@ -95,5 +103,5 @@ module _ (p : ℕ) (listed : is_listed p ≡ true) (modulus : List ℕ) (monic :
   -- the code of a residue, told by its coefficients
   pub code_made : (t : TopElem) (g h : ℕ → ℕ) → t ≡ stored (prime_ops p) d g → ((i : ℕ) → g i ≡ h i) → number p n (slice_index t.0) ≡ number p (suc d) h
   code_made t g h is same =
-      ap (λ k. number p k (slice_index t.0)) size ∙ ap (λ u. number p (suc d) (slice_index u.0)) is
+      ap (λ m. number p m (slice_index t.0)) size ∙ ap (λ u. number p (suc d) (slice_index u.0)) is
       ∙ number-same p (suc d) _ h (λ i l. stored-low (prime_ops p) d fits g i l ∙ same i)

@@ -6,49 +6,50 @@ use Rattle.finite_ring.specs.Finite.{HasNoPair}
 use Rattle.residue_field.specs.declared.TopElem.{TopElem}
 use Rattle.residue_field.specs.steps.Stored.{IsPlaces}
 use Rattle.residue_field.specs.TopElem.{top_places}
-use Rattle.residue_field.specs.Prime.{is_listed, prime_ops}
+use Rattle.residue_field.specs.Prime.{prime_ops}
 use Rattle.residue_field.specs.Digits.{number, code_places}
 use Rattle.residue_field.specs.Base.{base_ops}
 use Rattle.residue_field.proofs.Modular.{prime_ring, prime_commutes}
 use Rattle.residue_field.proofs.Listed.{listed_large}
 use Rattle.residue_field.proofs.DigitLaws.{code_stores}
 use Rattle.residue_field.proofs.Storage.{moved_in, moved_nonzero, moved_product, no_pair_moved}
-use Rattle.field_tower.specs.declared.size.TheConstants.{CODES}
-use Rattle.field_tower.specs.steps.Places.{IsModulus, stored_ops}
+use Rattle.field_tower.specs.declared.codes.Codes.{Codes}
+use Rattle.field_tower.specs.steps.Places.{stored_ops}
 use Rattle.field_tower.specs.Constants.{IsFieldOfCodes}
 use Rattle.field_tower.specs.Pairs.{IsPair}
-use Rattle.field_tower.proofs.PowerSteps.{power_large}
+use Rattle.field_tower.proofs.CodeForms.{codes_degree, prime_below}
 use Rattle.field_tower.proofs.Stored.{modulus_monic, stores_of}
 use Rattle.field_tower.proofs.ConstantValues.{prime_codes}
 
-module _ (p : ℕ) (listed : is_listed p ≡ true) (modulus : List ℕ) (monic : IsModulus (prime_ops p) modulus) where
+module _ (k : Codes) where
+  abbrev p : ℕ
+  p = k.prime.p
+
+  abbrev modulus : List ℕ
+  modulus = k.modulus.now
+
   abbrev d : ℕ
   d = length modulus - 2
 
   large : 1 < p
-  large = listed_large p listed
+  large = listed_large p k.prime.listed
 
   ring : IsRing (prime_ops p)
   ring = prime_ring p large
 
   places : IsPlaces (prime_ops p) d (top_places (prime_ops p) d)
-  places = stores_of (prime_ops p) ring modulus monic
+  places = stores_of (prime_ops p) ring modulus k.monic
 
   codes : IsPlaces (prime_ops p) d (code_places p d)
   codes = code_stores p d (omega (arith, large))
 
-  pub prime_constants : p ^ (length modulus - 1) ≤ CODES → IsFieldOfCodes (prime_ops p) p
-  prime_constants small =
-      let degree : 2 ≤ length modulus = monic.degree in
-      let positive : 0 < p = omega (arith, large) in
-      let some : 1 ≤ length modulus - 1 = omega arith in
-      let bound : p ≤ p ^ (length modulus - 1) = power_large p (length modulus - 1) positive some in
-      prime_codes p listed (omega arith)
+  pub prime_constants : IsFieldOfCodes (prime_ops p) p
+  prime_constants = prime_codes p k.prime.listed (omega (arith, prime_below k, k.small))
 
   pub no_code_pair : HasNoPair (stored_ops (prime_ops p) modulus) → HasNoPair (base_ops p d modulus)
   unfolding stored_ops base_ops
   no_code_pair =
-      no_pair_moved (prime_ops p) ring (prime_commutes p) d (coeff (prime_ops p) modulus) (modulus_monic (prime_ops p) ring modulus monic)
+      no_pair_moved (prime_ops p) ring (prime_commutes p) d (coeff (prime_ops p) modulus) (modulus_monic (prime_ops p) ring modulus k.monic)
       (top_places (prime_ops p) d) places (code_places p d) codes
 
   -- the code of a residue
@@ -60,23 +61,21 @@ module _ (p : ℕ) (listed : is_listed p ≡ true) (modulus : List ℕ) (monic :
   pair_of_codes a b pair =
       let r = prime_ops p in
       let f = coeff r modulus in
-      let m = modulus_monic r ring modulus monic in
+      let m = modulus_monic r ring modulus k.monic in
       let c = top_places r d in
-      let k = code_places p d in
+      let to = code_places p d in
       record {
-        left_in = moved_in r ring (prime_commutes p) d f m c places k codes a pair.left_in;
-        right_in = moved_in r ring (prime_commutes p) d f m c places k codes b pair.right_in;
-        left_nonzero = moved_nonzero r ring (prime_commutes p) d f m c places k codes a pair.left_in pair.left_nonzero;
-        right_nonzero = moved_nonzero r ring (prime_commutes p) d f m c places k codes b pair.right_in pair.right_nonzero;
-        product_zero = moved_product r ring (prime_commutes p) d f m c places k codes a b pair.left_in pair.right_in pair.product_zero;
+        left_in = moved_in r ring (prime_commutes p) d f m c places to codes a pair.left_in;
+        right_in = moved_in r ring (prime_commutes p) d f m c places to codes b pair.right_in;
+        left_nonzero = moved_nonzero r ring (prime_commutes p) d f m c places to codes a pair.left_in pair.left_nonzero;
+        right_nonzero = moved_nonzero r ring (prime_commutes p) d f m c places to codes b pair.right_in pair.right_nonzero;
+        product_zero = moved_product r ring (prime_commutes p) d f m c places to codes a b pair.left_in pair.right_in pair.product_zero;
       }
 
   pub code_pair_made : (a b : TopElem) (x y : ℕ) → IsPair (stored_ops (prime_ops p) modulus) a b
       → x ≡ number p (length modulus - 1) (slice_index a.0) → y ≡ number p (length modulus - 1) (slice_index b.0) → IsPair (base_ops p d modulus) x y
   unfolding code_of
   code_pair_made a b x y pair is_x is_y =
-      let degree : 2 ≤ length modulus = monic.degree in
-      let size : length modulus - 1 ≡ suc d = omega arith in
-      let code = λ (t : TopElem). ap (λ k. number p k (slice_index t.0)) size in
+      let code = λ (t : TopElem). ap (λ m. number p m (slice_index t.0)) (codes_degree k) in
       subst (λ v. IsPair (base_ops p d modulus) x v) (sym (is_y ∙ code b))
       (subst (λ u. IsPair (base_ops p d modulus) u (code_of b)) (sym (is_x ∙ code a)) (pair_of_codes a b pair))

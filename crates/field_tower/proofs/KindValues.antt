@@ -1,5 +1,5 @@
 -- What a base field computes, by kinds.
-use Rattle.std.proofs.Common.{◌≡◌, ℕ, suc, ◌+◌, ◌-◌, ◌*◌, ◌%◌, ◌^◌, ◌<◌, ◌≤◌, List, length, slice_index, get_or, bit_xor, sym, ap, ap₂, subst, ◌∙◌, arith, lt-ltb}
+use Rattle.std.proofs.Common.{◌≡◌, ℕ, suc, ◌+◌, ◌-◌, ◌*◌, ◌%◌, ◌^◌, ◌<◌, ◌≤◌, List, length, slice_index, get_or, bit_xor, sym, refl, ap, ap₂, subst, ◌∙◌, arith, lt-ltb}
 use Rattle.std.proofs.lemmas.List.{get_or_read}
 use Rattle.ring_core.specs.Ring.{IsElem}
 use Rattle.residue_field.specs.Base.{Base, base_ops, ops_of, size_of}
@@ -16,7 +16,7 @@ use Rattle.field_tower.specs.steps.Places.{IsModulus}
 use Rattle.residue_field.specs.Prime.{prime_ops}
 use Rattle.field_tower.proofs.BaseValues.{below_size, elem-is, size_large}
 use Rattle.field_tower.proofs.ModularForms.{IsModular, base_modular}
-use Rattle.field_tower.proofs.BaseTables.{table_fits, table-value, row_fits, row-value, modulus_of}
+use Rattle.field_tower.proofs.BaseTables.{table_fits, table-value, row_fits, row-value, modulus_of, count_of, moved}
 
 -- in characteristic two
 module _ (k : Base) (two : k.p ≡ 2) where
@@ -57,16 +57,17 @@ module _ (i : Inside) (n : Base) (same : base_of i ≡ n) where
   pub below : (a : ℕ) → IsElem (ops_of n) a → a < q
   below a e = subst (λ m. a < m) (sym count) (below_size n a e)
 
-  -- the modulus and the codes as the functions on digits want them
-  pub digit_modulus : (w : List ℕ) → w ≡ k.modulus → IsModulus (prime_ops k.p) w
-  digit_modulus w is =
-      modulus_of k.p k.s q w k.modulus is k.is_base.listed k.is_base.positive i.count i.small k.is_base.count k.is_base.elems k.is_base.top
+  -- the modulus as the codes have it
+  module _ (w : List ℕ) (is : w ≡ k.modulus) where
+    pub codes_monic : IsModulus (prime_ops k.p) w
+    codes_monic =
+        modulus_of k.p k.s q w k.modulus is k.is_base.listed k.is_base.positive i.count i.small k.is_base.count k.is_base.elems k.is_base.top
 
-  pub digit_bound : (w : List ℕ) → w ≡ k.modulus → (a : ℕ) → IsElem (ops_of n) a → a < k.p ^ (length w - 1)
-  digit_bound w is a e =
-      let len : length w ≡ k.s + 1 = ap length is ∙ k.is_base.count in
-      let degree : k.s ≡ length w - 1 = omega arith in
-      subst (λ m. a < k.p ^ m) degree (subst (λ m. a < m) i.count (below a e))
+    pub codes_count : q ≡ k.p ^ (length w - 1)
+    codes_count = count_of k.p k.s q w k.modulus is k.is_base.count i.count
+
+    pub codes_are : base_ops k.p (length w - 2) w ≡ ops_of n
+    codes_are = moved (λ d u. base_ops k.p (length w - 2) w ≡ base_ops k.p d u) w k.modulus k.s is k.is_base.count refl ∙ ap ops_of same
 
   -- modulo the prime
   module _ (one : k.s - 1 ≡ 0) where

@@ -7,6 +7,7 @@ pub mod Images
 pub mod Norm
 pub mod Bits
 pub mod Tables
+pub mod Codes
 pub mod Logs
 pub mod Kinds
 pub mod Parts

@@ -6,15 +6,16 @@ ghost use Rattle.finite_ring.specs.Finite.{HasNoPair};
 ghost use Rattle.field_tower.specs.steps.Kinds.{AreSums, AreSums-prop, AreProducts, AreProducts-prop};
 ghost use Rattle.residue_field.specs.Sizes.{most_codes};
 ghost use Rattle.residue_field.specs.Prime.{is_listed, prime_ops};
-ghost use Rattle.residue_field.specs.Base.{Base, IsBase, base_ops, base_code, ops_of, size_of, inverse_of, letter_code};
+ghost use Rattle.residue_field.specs.Base.{Base, IsBase, base_code, ops_of, size_of, inverse_of, letter_code};
 ghost use Rattle.residue_field.proofs.BaseLaws.{base_field, base_ring};
 ghost use Rattle.field_tower.specs.declared.size.TheConstants.{CODES};
-ghost use Rattle.field_tower.specs.steps.Places.{IsModulus};
+ghost use Rattle.field_tower.specs.steps.Codes.{code_ops};
 ghost use Rattle.field_tower.specs.Pairs.{IsPair};
 ghost use Rattle.field_tower.specs.MakeBase.{MakesBase, IsBaseOf, reduced as reduced_list};
 ghost use Rattle.field_tower.specs.steps.Parts.{IsFaultOf};
 
 use super::accept::{find_pair, unit_powers};
+use super::codes::Codes;
 use super::fault::BaseFault;
 use super::logs::{ProductKind, Products, made_products};
 use super::prime::PrimeField;
@@ -22,7 +23,7 @@ use super::remainders::{less_once, remainder};
 use super::residue_ring::Residues;
 use super::row_sums::add_multiple;
 use super::size::{is_listed, size};
-use super::tables::{SumKind, Sums, code_at, code_negative, code_product, code_sum, made_sums};
+use super::tables::{SumKind, Sums, made_sums};
 use residue_field::Code;
 use ring_core::{Field, NoMemory};
 use std::alloc::Global;
@@ -130,40 +131,16 @@ impl BaseField {
         }
     }
 
-    /// The sum of two codes, by their digits.
-    fn digit_sum(&self, a: Code, b: Code) -> Code
-        requires left { IsElem (ops_of self.now) a }
-        requires right { IsElem (ops_of self.now) b }
-        ensures { result ≡ (ops_of self.now).add a b }
+    /// The codes, for what is computed by their digits.
+    fn codes(&self) -> Codes<'_>
+        ensures ops { code_ops result ≡ ops_of self.now }
+        ensures count { result.q ≡ size_of self.now }
     {
-        code_sum(
-            &PrimeField { p: self.p },
-            &self.modulus,
-            a as usize,
-            b as usize,
-        )
-    }
-
-    /// The negative of a code, by its digits.
-    fn digit_negative(&self, a: Code) -> Code
-        requires { IsElem (ops_of self.now) a }
-        ensures { result ≡ (ops_of self.now).neg a }
-    {
-        code_negative(&PrimeField { p: self.p }, &self.modulus, a as usize)
-    }
-
-    /// The product of two codes, by their digits.
-    fn digit_product(&self, a: Code, b: Code) -> Code
-        requires left { IsElem (ops_of self.now) a }
-        requires right { IsElem (ops_of self.now) b }
-        ensures { result ≡ (ops_of self.now).mul a b }
-    {
-        code_product(
-            &PrimeField { p: self.p },
-            &self.modulus,
-            a as usize,
-            b as usize,
-        )
+        Codes {
+            prime: PrimeField { p: self.p },
+            modulus: &self.modulus,
+            q: self.q,
+        }
     }
 
     /// The reciprocal of the prime in 32 bits.
@@ -202,7 +179,7 @@ impl BaseField {
                 let logs = &self.products.logs;
                 self.products.powers[logs[a as usize] as usize + logs[b as usize] as usize]
             }
-            ProductKind::Digital => self.digit_product(a, b),
+            ProductKind::Digital => self.codes().product(a as usize, b as usize),
         }
     }
 
@@ -249,26 +226,19 @@ impl BaseField {
 }
 
 /// Two nonzero codes whose product is zero, None where there are none.
-fn code_pair(
-    alloc: Global,
-    prime: &PrimeField,
-    modulus: &[Code],
-) -> Result<Option<(Code, Code)>, NoMemory>
-    requires monic { IsModulus (prime_ops prime.now.p) modulus.now }
-    requires small { prime.now.p ^ (length modulus.now - 1) ≤ CODES }
-    ensures { let k = base_ops prime.now.p (length modulus.now - 2) modulus.now in
-        IfOk result (λ o. MatchOption o (HasNoPair k) (λ pair. IsPair k pair.0 pair.1)) }
+fn code_pair(alloc: Global, codes: &Codes) -> Result<Option<(Code, Code)>, NoMemory>
+    ensures { let k = code_ops codes.now in IfOk result (λ o. MatchOption o (HasNoPair k) (λ pair. IsPair k pair.0 pair.1)) }
 {
     let ring = Residues {
-        field: prime,
-        modulus,
+        field: &codes.prime,
+        modulus: codes.modulus,
     };
-    let powers = unit_powers(alloc, &ring, prime.p)?;
-    let Some((a, b)) = find_pair(alloc, &ring, prime.p, &powers)? else {
+    let powers = unit_powers(alloc, &ring, codes.prime.p)?;
+    let Some((a, b)) = find_pair(alloc, &ring, codes.prime.p, &powers)? else {
         return Ok(None);
     };
-    let left = code_at(prime, modulus, a);
-    let right = code_at(prime, modulus, b);
+    let left = codes.code(a);
+    let right = codes.code(b);
     Ok(Some((left, right)))
 }
 
@@ -288,15 +258,20 @@ fn make_reduced(
     requires monic { slice_index modulus.items s ≡ 1 }
     ensures { MatchResult result (IsBaseOf prime.p s modulus.items) (IsFaultOf prime.p s modulus.items) }
 {
-    match code_pair(alloc, &prime, &modulus) {
+    let codes = Codes {
+        prime,
+        modulus: &modulus,
+        q,
+    };
+    match code_pair(alloc, &codes) {
         Ok(None) => (),
         Ok(Some((a, b))) => return Err(BaseFault::ZeroDivisors { a, b }),
         Err(NoMemory) => return Err(BaseFault::NoMemory),
     }
-    let Ok(sums) = made_sums(alloc, &prime, &modulus, q) else {
+    let Ok(sums) = made_sums(alloc, &codes) else {
         return Err(BaseFault::NoMemory);
     };
-    let Ok(products) = made_products(alloc, &prime, &modulus, q) else {
+    let Ok(products) = made_products(alloc, &codes) else {
         return Err(BaseFault::NoMemory);
     };
     Ok(BaseField {
@@ -338,7 +313,7 @@ impl Field for BaseField {
             SumKind::Modular => less_once(a as u32 + b as u32, self.p) as Code,
             SumKind::Binary => a ^ b,
             SumKind::Tabled => self.sums.table[a as usize * self.q + b as usize],
-            SumKind::Digital => self.digit_sum(a, b),
+            SumKind::Digital => self.codes().sum(a as usize, b as usize),
         }
     }
 
@@ -347,7 +322,7 @@ impl Field for BaseField {
             SumKind::Modular => less_once(self.p - a as u32, self.p) as Code,
             SumKind::Binary => a,
             SumKind::Tabled => self.sums.negatives[a as usize],
-            SumKind::Digital => self.digit_negative(a),
+            SumKind::Digital => self.codes().negative(a as usize),
         }
     }
 

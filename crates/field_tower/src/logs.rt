@@ -1,18 +1,15 @@
 //! Products in base fields by logarithms. Candidates for a generator are tried one after the other, and the
 //! tables of each are tested, so nothing rests on a generator's being found.
 
-ghost use Rattle.std.specs.Prelude.{◌≡◌, ℕ, ◌-◌, ◌+◌, ◌*◌, ◌<◌, ◌≤◌, ◌^◌, cond, nat_lt, IfOk, IfSome, length, true};
+ghost use Rattle.std.specs.Prelude.{◌≡◌, ◌-◌, ◌*◌, ◌<◌, ◌≤◌, cond, nat_lt, IfOk, IfSome, length, true};
 ghost use Rattle.ring_core.specs.Coeffs.{first_values};
-ghost use Rattle.residue_field.specs.Prime.{prime_ops};
-ghost use Rattle.residue_field.specs.Base.{base_ops};
 ghost use Rattle.field_tower.specs.declared.size.TheConstants.{CODES};
-ghost use Rattle.field_tower.specs.steps.Places.{IsModulus};
+ghost use Rattle.field_tower.specs.steps.Codes.{code_ops};
 ghost use Rattle.field_tower.specs.steps.Tables.{IsRow};
 ghost use Rattle.field_tower.specs.steps.Logs.{steps_below, AreSteps, AreLogs, IsLogTable};
 ghost use Rattle.field_tower.specs.steps.Kinds.{AreProducts};
 
-use super::prime::PrimeField;
-use super::tables::{code_product, code_sum, top_place, without_place};
+use super::codes::Codes;
 use residue_field::Code;
 use ring_core::NoMemory;
 use std::alloc::Global;
@@ -40,46 +37,28 @@ pub(crate) struct Products {
 
 /// The product of the codes `a` and `g`, where `row` holds those of the codes below `a`: the sum of two
 /// of them where `a` is the sum of `place` and another code below.
-fn multiple(
-    prime: &PrimeField,
-    modulus: &[Code],
-    g: usize,
-    row: &[Code],
-    a: usize,
-    place: usize,
-) -> Code
-    requires monic { IsModulus (prime_ops prime.now.p) modulus.now }
-    requires small { prime.now.p ^ (length modulus.now - 1) ≤ CODES }
-    requires factor { g < prime.now.p ^ (length modulus.now - 1) }
-    requires code { a < prime.now.p ^ (length modulus.now - 1) }
-    requires before { row.now ≡ first_values a (λ b. (base_ops prime.now.p (length modulus.now - 2) modulus.now).mul b g) }
-    ensures { result ≡ (base_ops prime.now.p (length modulus.now - 2) modulus.now).mul a g }
+fn multiple(codes: &Codes, g: usize, row: &[Code], a: usize, place: usize) -> Code
+    requires factor { g < codes.now.q }
+    requires code { a < codes.now.q }
+    requires before { row.now ≡ first_values a (λ b. (code_ops codes.now).mul b g) }
+    ensures { result ≡ (code_ops codes.now).mul a g }
 {
-    if let Some(rest) = without_place(prime, modulus, a, place) {
-        return code_sum(prime, modulus, row[rest] as usize, row[place] as usize);
+    if let Some(rest) = codes.without_place(a, place) {
+        return codes.sum(row[rest] as usize, row[place] as usize);
     }
-    code_product(prime, modulus, a, g)
+    codes.product(a, g)
 }
 
 /// The products of all codes with the code `g`.
-fn multiples(
-    alloc: Global,
-    prime: &PrimeField,
-    modulus: &[Code],
-    q: usize,
-    g: usize,
-) -> Result<Vec<Code>, NoMemory>
-    requires monic { IsModulus (prime_ops prime.now.p) modulus.now }
-    requires count { q ≡ prime.now.p ^ (length modulus.now - 1) }
-    requires small { q ≤ CODES }
-    requires factor { g < q }
-    ensures { IfOk result (λ t. IsRow q (λ a. (base_ops prime.now.p (length modulus.now - 2) modulus.now).mul a g) t.items) }
+fn multiples(alloc: Global, codes: &Codes, g: usize) -> Result<Vec<Code>, NoMemory>
+    requires { g < codes.now.q }
+    ensures { IfOk result (λ t. IsRow codes.now.q (λ a. (code_ops codes.now).mul a g) t.items) }
 {
-    let mut row = Vec::with_capacity(alloc, q)?;
+    let mut row = Vec::with_capacity(alloc, codes.q)?;
     let mut place = 1;
-    for a in 0..q {
-        place = top_place(prime, place, a);
-        let product = multiple(prime, modulus, g, &row, a, place);
+    for a in 0..codes.q {
+        place = codes.top_place(place, a);
+        let product = multiple(codes, g, &row, a, place);
         row.push(product)?;
     }
     Ok(row)
@@ -159,20 +138,12 @@ fn are_logs(powers: &[Code], logs: &[u32], q: usize) -> bool
 }
 
 /// Products by the powers of the code `g`; None where not every nonzero code is one.
-fn products_by(
-    alloc: Global,
-    prime: &PrimeField,
-    modulus: &[Code],
-    q: usize,
-    g: usize,
-) -> Result<Option<Products>, NoMemory>
-    requires monic { IsModulus (prime_ops prime.now.p) modulus.now }
-    requires count { q ≡ prime.now.p ^ (length modulus.now - 1) }
-    requires small { q ≤ CODES }
-    requires factor { g < q }
-    ensures { IfOk result (λ o. IfSome o (AreProducts prime.now.p (length modulus.now - 2) q modulus.now)) }
+fn products_by(alloc: Global, codes: &Codes, g: usize) -> Result<Option<Products>, NoMemory>
+    requires { g < codes.now.q }
+    ensures { let k = codes.now in IfOk result (λ o. IfSome o (AreProducts k.prime.p (length k.modulus.now - 2) k.q k.modulus.now)) }
 {
-    let row = multiples(alloc, prime, modulus, q, g)?;
+    let q = codes.q;
+    let row = multiples(alloc, codes, g)?;
     if returns_early(&row) {
         return Ok(None);
     }
@@ -189,19 +160,11 @@ fn products_by(
 }
 
 /// Products by the logarithms to the first generator; by digits where none is found.
-fn logged_products(
-    alloc: Global,
-    prime: &PrimeField,
-    modulus: &[Code],
-    q: usize,
-) -> Result<Products, NoMemory>
-    requires monic { IsModulus (prime_ops prime.now.p) modulus.now }
-    requires count { q ≡ prime.now.p ^ (length modulus.now - 1) }
-    requires small { q ≤ CODES }
-    ensures { IfOk result (AreProducts prime.now.p (length modulus.now - 2) q modulus.now) }
+fn logged_products(alloc: Global, codes: &Codes) -> Result<Products, NoMemory>
+    ensures { let k = codes.now in IfOk result (AreProducts k.prime.p (length k.modulus.now - 2) k.q k.modulus.now) }
 {
-    for g in prime.p as usize..q {
-        if let Some(products) = products_by(alloc, prime, modulus, q, g)? {
+    for g in codes.prime.p as usize..codes.q {
+        if let Some(products) = products_by(alloc, codes, g)? {
             return Ok(products);
         }
     }
@@ -212,20 +175,12 @@ fn logged_products(
     })
 }
 
-/// How the base field of these data multiplies.
-pub(crate) fn made_products(
-    alloc: Global,
-    prime: &PrimeField,
-    modulus: &[Code],
-    q: usize,
-) -> Result<Products, NoMemory>
-    requires monic { IsModulus (prime_ops prime.now.p) modulus.now }
-    requires count { q ≡ prime.now.p ^ (length modulus.now - 1) }
-    requires small { q ≤ CODES }
-    ensures { IfOk result (AreProducts prime.now.p (length modulus.now - 2) q modulus.now) }
+/// How the base field of these codes multiplies.
+pub(crate) fn made_products(alloc: Global, codes: &Codes) -> Result<Products, NoMemory>
+    ensures { let k = codes.now in IfOk result (AreProducts k.prime.p (length k.modulus.now - 2) k.q k.modulus.now) }
 {
-    if modulus.len() != 2 {
-        return logged_products(alloc, prime, modulus, q);
+    if codes.modulus.len() != 2 {
+        return logged_products(alloc, codes);
     }
     Ok(Products {
         kind: ProductKind::Modular,

@@ -6,6 +6,7 @@ use Rattle.residue_field.specs.declared.TopElem.{TopElem}
 use Rattle.residue_field.specs.declared.TheConstants.{WIDTH}
 use Rattle.residue_field.specs.Residue.{residue_ops}
 use Rattle.residue_field.specs.TopElem.{top_places}
+use Rattle.residue_field.specs.Base.{base_ops}
 
 -- The modulus is monic, of a degree from 1 to `WIDTH`.
 pub record IsModulus (r : RingOps ℕ) (modulus : List ℕ) : Type 0 where
@@ -25,3 +26,7 @@ stored r d g = (top_places r d).pack g
 -- The ring of the residues modulo `modulus`.
 unfoldable pub stored_ops : RingOps ℕ → List ℕ → RingOps TopElem
 stored_ops r modulus = residue_ops r (length modulus - 2) (coeff r modulus) (top_places r (length modulus - 2))
+
+-- The same ring on codes, over the numbers modulo `p`.
+abbrev pub codes_modulo : ℕ → List ℕ → RingOps ℕ
+codes_modulo p modulus = base_ops p (length modulus - 2) modulus

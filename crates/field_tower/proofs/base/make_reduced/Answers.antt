@@ -3,20 +3,15 @@ use Rattle.finite_ring.specs.Finite.{HasNoPair}
 use Rattle.field_tower.specs.steps.Kinds.{AreSums, AreProducts}
 use Rattle.residue_field.specs.Base.{IsBase, base_ops}
 use Rattle.field_tower.specs.Pairs.{IsPair}
-use Rattle.field_tower.proofs.BaseTables.{modulus_of, moved}
+use Rattle.field_tower.proofs.BaseTables.{modulus_of, count_of, moved}
 use Rattle.field_tower.proofs.base.make_reduced.Goals as goal
 
-pub code_pair-requires-clause-monic : goal.code_pair-requires-clause-monic
-code_pair-requires-clause-monic c =
+pub invariant_of-codes-clause-monic : goal.invariant_of-codes-clause-monic
+invariant_of-codes-clause-monic c =
     modulus_of c.args.prime.p c.args.s _ _ _ c.deref.ensures.value c.args.prime.listed c.requires.degree c.requires.count c.requires.small c.requires.members c.requires.elems c.requires.monic
 
-pub made_sums-requires-clause-monic : goal.made_sums-requires-clause-monic
-made_sums-requires-clause-monic c =
-    modulus_of c.args.prime.p c.args.s _ _ _ c.deref-2.ensures.value c.args.prime.listed c.requires.degree c.requires.count c.requires.small c.requires.members c.requires.elems c.requires.monic
-
-pub made_products-requires-clause-monic : goal.made_products-requires-clause-monic
-made_products-requires-clause-monic c =
-    modulus_of c.args.prime.p c.args.s _ _ _ c.deref-3.ensures.value c.args.prime.listed c.requires.degree c.requires.count c.requires.small c.requires.members c.requires.elems c.requires.monic
+pub invariant_of-codes-clause-count : goal.invariant_of-codes-clause-count
+invariant_of-codes-clause-count c = count_of c.args.prime.p c.args.s _ _ _ c.deref.ensures.value c.requires.members c.requires.count
 
 pub invariant_of-result : goal.invariant_of-result
 invariant_of-result c =
@@ -38,6 +33,6 @@ invariant_of-result c =
       top = c.requires.monic;
       no_pair = no_pair;
     } in
-    let sums = moved (λ n u. AreSums p n q u c.in-Ok.sums) _ modulus s c.deref-2.ensures.value c.requires.members c.in-Ok.ensures in
-    let products = moved (λ n u. AreProducts p n q u c.in-Ok-made_products.products) _ modulus s c.deref-3.ensures.value c.requires.members c.in-Ok-made_products.ensures in
+    let sums = moved (λ n u. AreSums p n q u c.in-Ok.sums) _ modulus s c.deref.ensures.value c.requires.members c.in-Ok.ensures in
+    let products = moved (λ n u. AreProducts p n q u c.in-Ok-made_products.products) _ modulus s c.deref.ensures.value c.requires.members c.in-Ok-made_products.ensures in
     (is_base, (c.requires.count, (c.requires.small, (refl, (sums, (products, tt))))))

@@ -1,21 +1,17 @@
-use Rattle.std.proofs.Common.{◌≡◌, ℕ, ◌-◌, length, ap, ◌∙◌, arith}
+use Rattle.std.proofs.Common.{◌≡◌, ap, ◌∙◌, arith}
 use Rattle.ring_core.specs.Coeffs.{first_values}
 use Rattle.ring_core.proofs.Coefficients.{values_more}
 use Rattle.residue_field.specs.Prime.{prime_ops}
-use Rattle.residue_field.specs.Base.{base_ops}
+use Rattle.field_tower.specs.steps.Codes.{code_ops}
 use Rattle.field_tower.proofs.FilledTables.{filled_row}
 use Rattle.field_tower.proofs.tables.negative_row.Goals as goal
 
 pub loop-a-preserved : goal.loop-a-preserved
 loop-a-preserved c =
-    let p = c.args.prime.now.p in
-    let modulus = c.args.modulus.now in
-    values_more (prime_ops p) c.loop-a.a (λ a. (base_ops p (length modulus - 2) modulus).neg a) _ _ _ c.in_ok-push.ensures.items c.loop-a.invariant c.code_negative.ensures
+    values_more (prime_ops 2) c.loop-a.a (code_ops c.args.codes.now).neg _ _ _ c.in_ok-push.ensures.items c.loop-a.invariant c.negative.ensures
 
 pub returns : goal.returns
 returns c =
-    let p = c.args.prime.now.p in
-    let modulus = c.args.modulus.now in
-    let op = (base_ops p (length modulus - 2) modulus).neg in
-    let last : c.loop-a.a ≡ c.args.q = omega arith in
-    filled_row c.args.q op c.loop-a.row.items (c.loop-a.invariant ∙ ap (λ n. first_values n (λ (a : ℕ). op a)) last)
+    let op = (code_ops c.args.codes.now).neg in
+    let last : c.loop-a.a ≡ c.args.codes.now.q = omega arith in
+    filled_row c.args.codes.now.q op c.loop-a.row.items (c.loop-a.invariant ∙ ap (λ n. first_values n op) last)

@@ -1,8 +1,6 @@
-use Rattle.std.proofs.Common.{◌≡◌, ◌+◌, ◌*◌, ◌-◌, ◌/◌, ◌%◌, length}
-use Rattle.ring_core.specs.Coeffs.{first_values}
-use Rattle.residue_field.specs.Base.{base_ops}
+use Rattle.std.proofs.Common.{◌≡◌, ◌+◌, ◌*◌}
+use Rattle.field_tower.specs.steps.Codes.{first_sums}
 use Rattle.field_tower.proofs.tables.push_sums.Given as goal
 
 abbrev pub invariant-loop-b : goal.invariant-loop-b
-invariant-loop-b l =
-    l.table.items ≡ first_values (l.a * l.q + l.b) (λ m. (base_ops l.prime.p (length l.modulus - 2) l.modulus).add (m / l.q) (m % l.q))
+invariant-loop-b l = l.table.items ≡ first_sums l.codes (l.a * l.codes.q + l.b)

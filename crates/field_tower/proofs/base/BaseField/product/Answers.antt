@@ -1,6 +1,7 @@
-use Rattle.std.proofs.Common.{ap, ◌∙◌, rules}
+use Rattle.std.proofs.Common.{◌<◌, sym, ap, subst, ◌∙◌, rules}
 use Rattle.residue_field.specs.Base.{ops_of}
 use Rattle.residue_field.proofs.BaseLaws.{base_ring}
+use Rattle.field_tower.proofs.BaseValues.{below_size}
 use Rattle.field_tower.proofs.KindValues.{modular-mul, products_are, log_fits, power_fits, logged-mul}
 use Rattle.field_tower.specs.declared.logs.ProductKind.TheVariants as product
 use Rattle.field_tower.proofs.base.BaseField.product.Goals as goal
@@ -26,6 +27,12 @@ index-requires-in-Logged-2 c =
     let fits = power_fits i n c.self.view_is c.in-Logged.is c.args.a c.args.b c.index.result.now c.index-in-Logged.result.now c.requires.left c.requires.right c.index.ensures c.index-in-Logged.ensures in
     search (rules, fits)
 
+pub product-requires-clause-left : goal.product-requires-clause-left
+product-requires-clause-left c = subst (λ m. c.args.a < m) (sym c.codes.ensures.count) (below_size c.args.self.now c.args.a c.requires.left)
+
+pub product-requires-clause-right : goal.product-requires-clause-right
+product-requires-clause-right c = subst (λ m. c.args.b < m) (sym c.codes.ensures.count) (below_size c.args.self.now c.args.b c.requires.right)
+
 pub returns-in-Modular-clause-value : goal.returns-in-Modular-clause-value
 returns-in-Modular-clause-value c =
     let i = c.self.inside in
@@ -49,4 +56,4 @@ returns-in-Logged-clause-elem c =
 
 pub returns-in-Digital-clause-elem : goal.returns-in-Digital-clause-elem
 returns-in-Digital-clause-elem c =
-    ap (ops_of c.args.self.now).is_elem c.digit_product.ensures ∙ (base_ring c.args.self.now).closed.mul_in _ _ c.requires.left c.requires.right
+    ap (ops_of c.args.self.now).is_elem (c.product.ensures ∙ ap (λ r. r.mul c.args.a c.args.b) c.codes.ensures.ops) ∙ (base_ring c.args.self.now).closed.mul_in _ _ c.requires.left c.requires.right

@@ -1,6 +1,7 @@
-use Rattle.std.proofs.Common.{◌<◌, ap, ◌∙◌, rules, arith}
+use Rattle.std.proofs.Common.{◌<◌, sym, ap, subst, ◌∙◌, rules, arith}
 use Rattle.residue_field.specs.Base.{ops_of}
 use Rattle.residue_field.proofs.BaseLaws.{base_ring}
+use Rattle.field_tower.proofs.BaseValues.{below_size}
 use Rattle.field_tower.proofs.KindValues.{modular_below, modular-add, sums_are, binary-add, sum_fits, tabled-add}
 use Rattle.field_tower.specs.declared.tables.SumKind.TheVariants as sum
 use Rattle.field_tower.proofs.base.BaseFieldField.add.Goals as goal
@@ -20,6 +21,12 @@ index-requires c =
     let n = c.args.self.now in
     let fits = sum_fits i n c.self.view_is c.in-Tabled.is c.args.a c.args.b c.requires.left c.requires.right in
     search (rules, fits)
+
+pub sum-requires-clause-left : goal.sum-requires-clause-left
+sum-requires-clause-left c = subst (λ m. c.args.a < m) (sym c.codes.ensures.count) (below_size c.args.self.now c.args.a c.requires.left)
+
+pub sum-requires-clause-right : goal.sum-requires-clause-right
+sum-requires-clause-right c = subst (λ m. c.args.b < m) (sym c.codes.ensures.count) (below_size c.args.self.now c.args.b c.requires.right)
 
 pub returns-in-Modular-clause-value : goal.returns-in-Modular-clause-value
 returns-in-Modular-clause-value c =
@@ -54,4 +61,4 @@ returns-in-Tabled-clause-elem c =
 
 pub returns-in-Digital-clause-elem : goal.returns-in-Digital-clause-elem
 returns-in-Digital-clause-elem c =
-    ap (ops_of c.args.self.now).is_elem c.digit_sum.ensures ∙ (base_ring c.args.self.now).closed.add_in _ _ c.requires.left c.requires.right
+    ap (ops_of c.args.self.now).is_elem (c.sum.ensures ∙ ap (λ r. r.add c.args.a c.args.b) c.codes.ensures.ops) ∙ (base_ring c.args.self.now).closed.add_in _ _ c.requires.left c.requires.right

@@ -1,7 +1,8 @@
-use Rattle.std.proofs.Common.{◌<◌, ap, ◌∙◌, rules, arith}
+use Rattle.std.proofs.Common.{◌<◌, sym, ap, subst, ◌∙◌, rules, arith}
 use Rattle.residue_field.specs.Base.{ops_of}
 use Rattle.residue_field.proofs.BaseLaws.{base_ring}
 use Rattle.residue_field.proofs.Listed.{listed_large}
+use Rattle.field_tower.proofs.BaseValues.{below_size}
 use Rattle.field_tower.proofs.KindValues.{modular_below, modular-neg, sums_are, binary-neg, negative_fits, tabled-neg}
 use Rattle.field_tower.specs.declared.tables.SumKind.TheVariants as sum
 use Rattle.field_tower.proofs.base.BaseFieldField.neg.Goals as goal
@@ -27,6 +28,9 @@ index-requires c =
     let n = c.args.self.now in
     let fits = negative_fits i n c.self.view_is c.in-Tabled.is c.args.a c.requires in
     search (rules, fits)
+
+pub negative-requires : goal.negative-requires
+negative-requires c = subst (λ m. c.args.a < m) (sym c.codes.ensures.count) (below_size c.args.self.now c.args.a c.requires)
 
 pub returns-in-Modular-clause-value : goal.returns-in-Modular-clause-value
 returns-in-Modular-clause-value c =
@@ -57,4 +61,4 @@ returns-in-Tabled-clause-elem c =
 
 pub returns-in-Digital-clause-elem : goal.returns-in-Digital-clause-elem
 returns-in-Digital-clause-elem c =
-    ap (ops_of c.args.self.now).is_elem c.digit_negative.ensures ∙ (base_ring c.args.self.now).closed.neg_in _ c.requires
+    ap (ops_of c.args.self.now).is_elem (c.negative.ensures ∙ ap (λ r. r.neg c.args.a) c.codes.ensures.ops) ∙ (base_ring c.args.self.now).closed.neg_in _ c.requires
