@@ -1,5 +1,5 @@
 -- The steps of a division: each clears the top place of the rest, and adds a term to the quotient.
-use Rattle.std.proofs.Common.{◌≡◌, ◌≢◌, ℕ, ◌+◌, ◌-◌, ◌<◌, ◌≤◌, true, List, [], length, set, sym, ◌∙◌, ap, ap₂, subst, ⊎_elim, arith, get_or-set_same, get_or-set_other}
+use Rattle.std.proofs.Common.{◌≡◌, ◌≢◌, ℕ, ◌+◌, ◌-◌, ◌<◌, ◌≤◌, true, List, [], length, set, sym, ◌∙◌, ap, ap₂, ⊎_elim, arith, get_or-set_same, get_or-set_other}
 use Rattle.std.proofs.lemmas.Bool.{and_parts, cases_eq}
 use Rattle.ring_core.specs.Ring.{RingOps, IsElem, IsRing, IsCommutative}
 use Rattle.ring_core.specs.Coeffs.{coeff, are_elems, is_canonical, trim}
@@ -105,9 +105,8 @@ module _ {E : Type 0} (r : RingOps E) (h : IsRing r) (ne : r.one ≢ r.zero) whe
   -- no place of the quotient is written yet
   pub sum_started : (rest q b : List E) → are_elems r rest ≡ true → is_canonical r b ≡ true → are_elems r q ≡ true → ((i : ℕ) → coeff r q i ≡ r.zero) → trim r rest ≡ list_add r (poly_mul r (trim r q) b) (trim r rest)
   sum_started rest q b er cb eq zeros =
-      let none : poly q eq ≡ polys.zero = same_element (poly_ops r) (poly q eq) polys.zero (trimmed_zeros r h q eq zeros) in
       sym (ap (λ x. x.0)
-      (ap (λ x. polys.add (polys.mul x (b, cb)) (poly rest er)) none
+      (ap (λ x. polys.add (polys.mul x (b, cb)) (poly rest er)) (same_element (poly_ops r) (poly q eq) polys.zero (trimmed_zeros r h q eq zeros))
       ∙ ap (λ x. polys.add x (poly rest er)) (zero_mul polys (b, cb)) ∙ polys.zero_add (poly rest er)))
 
   -- the dividend stays the product of the quotient and the divisor, and the rest
@@ -133,10 +132,7 @@ module _ {E : Type 0} (r : RingOps E) (h : IsRing r) (ne : r.one ≢ r.zero) whe
       → c ≡ trim r q → left ≡ trim r rest
       → IsDivision r a b c left
   division_done a b q rest c left ca eq er pos held cleared quotient remainder =
-      let With : List E → Type 0 = λ u. IsDivision r a b u left in
-      let From : List E → Type 0 = λ v. IsDivision r a b (trim r q) v in
-      subst With (sym quotient)
-      (subst From (sym remainder)
+      rw (quotient, remainder)
       (record {
         quotient = canonical-trim r q eq;
         remainder = canonical-trim r rest er;
@@ -144,4 +140,4 @@ module _ {E : Type 0} (r : RingOps E) (h : IsRing r) (ne : r.one ≢ r.zero) whe
         lower =
             length_below r h (trim r rest) (length b) pos (trimmed-trim r rest)
             (λ i l. coeff-trim r h.closed.zero_in h.equal rest er i ∙ cleared i l);
-      }))
+      })

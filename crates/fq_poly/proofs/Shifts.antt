@@ -56,26 +56,22 @@ module _ {E : Type 0} (r : RingOps E) (h : IsRing r) (ne : r.one ≢ r.zero) whe
   times_power_below : (u : List E) (k : ℕ) → are_elems r u ≡ true → (j : ℕ) → j < k → product_at r (λ c i. c) u (monomial r r.one k) j ≡ r.zero
   times_power_below u k e j l = product_monomial_below r h (λ c i. c) (no_twist r) u r.one k h.closed.one_in e j l
 
+  power_elems : (k : ℕ) → are_elems r (monomial r r.one k) ≡ true
+  power_elems k = (and_parts _ _ (monomial_in r h r.one k h.closed.one_in)).0
+
   next_coeff : (k j : ℕ) → product_at r (λ c i. c) (monomial r r.one k) (monomial r r.one 1) j ≡ coeff r (monomial r r.one (suc k)) j
-  next_coeff k j =
+  next_coeff k zero =
+      times_power_below (monomial r r.one k) 1 (power_elems k) 0 (omega arith) ∙ sym (coeff-monomial_other r h r.one (suc k) 0 h.closed.one_in (λ e. cc))
+  next_coeff k (suc j) =
       let one = h.closed.one_in in
-      let e = (and_parts _ _ (monomial_in r h r.one k one)).0 in
-      ⊎_elim
-      (λ (low : j < 1).
-      let other : j ≢ suc k = omega arith in
-      times_power_below (monomial r r.one k) 1 e j low ∙ sym (coeff-monomial_other r h r.one (suc k) j one other))
-      (λ (high : 1 ≤ j).
-      times_power (monomial r r.one k) 1 e j high
+      let before : suc j - 1 ≡ j = omega arith in
+      times_power (monomial r r.one k) 1 (power_elems k) (suc j) (omega arith) ∙ ap (coeff r (monomial r r.one k)) before
       ∙ ⊎_elim
-      (λ (same : j ≡ suc k).
-      let before : j - 1 ≡ k = omega arith in
-      ap (coeff r (monomial r r.one k)) before ∙ coeff-monomial_same r h r.one k one
-      ∙ sym (ap (coeff r (monomial r r.one (suc k))) same ∙ coeff-monomial_same r h r.one (suc k) one))
-      (λ (other : j ≡ suc k → ⊥).
-      let apart : j - 1 ≢ k = omega arith in
-      coeff-monomial_other r h r.one k (j - 1) one apart ∙ sym (coeff-monomial_other r h r.one (suc k) j one other))
-      (cases_eq j (suc k)))
-      (cases_lt j 1)
+      (λ (same : j ≡ k).
+      ap (coeff r (monomial r r.one k)) same ∙ coeff-monomial_same r h r.one k one
+      ∙ sym (ap (λ i. coeff r (monomial r r.one (suc k)) (suc i)) same ∙ coeff-monomial_same r h r.one (suc k) one))
+      (λ (other : j ≢ k). coeff-monomial_other r h r.one k j one other ∙ sym (coeff-monomial_other r h r.one (suc k) (suc j) one (λ e. other (omega arith))))
+      (cases_eq j k)
 
   -- a polynomial by the coefficients of a product
   by_product : (u a b : List E) → is_canonical r u ≡ true → are_elems r a ≡ true → are_elems r b ≡ true → ((j : ℕ) → coeff r u j ≡ product_at r (λ c i. c) a b j) → u ≡ poly_mul r a b
@@ -86,10 +82,8 @@ module _ {E : Type 0} (r : RingOps E) (h : IsRing r) (ne : r.one ≢ r.zero) whe
   power_is : (k : ℕ) → power_of (poly_ops r) (letter r) k ≡ monomial r r.one k
   power_is zero = one_is
   power_is (suc k) =
-      let one = h.closed.one_in in
-      let power = λ (n : ℕ). (and_parts (are_elems r (monomial r r.one n)) _ (monomial_in r h r.one n one)).0 in
       ap₂ (poly_mul r) (power_is k) letter_is
-      ∙ sym (by_product (monomial r r.one (suc k)) (monomial r r.one k) (monomial r r.one 1) (monomial_in r h r.one (suc k) one) (power k) (power 1) (λ j. sym (next_coeff k j)))
+      ∙ sym (by_product (monomial r r.one (suc k)) _ _ (monomial_in r h r.one (suc k) h.closed.one_in) (power_elems k) (power_elems 1) (λ j. sym (next_coeff k j)))
 
   shift_coeff : (u : List E) (k : ℕ) → are_elems r u ≡ true → (j : ℕ) → coeff r (first_values k (λ i. r.zero) ++ u) j ≡ product_at r (λ c i. c) u (monomial r r.one k) j
   shift_coeff u k e j =
@@ -102,7 +96,7 @@ module _ {E : Type 0} (r : RingOps E) (h : IsRing r) (ne : r.one ≢ r.zero) whe
   pub shift_is : (u : List E) (k : ℕ) → is_canonical r u ≡ true → 0 < length u → first_values k (λ i. r.zero) ++ u ≡ poly_mul r u (power_of (poly_ops r) (letter r) k)
   shift_is u k c pos =
       let e = (and_parts _ _ c).0 in
-      by_product (first_values k (λ i. r.zero) ++ u) u (monomial r r.one k) (canonical_behind r k u h.closed.zero_in pos c) e (and_parts _ _ (monomial_in r h r.one k h.closed.one_in)).0 (shift_coeff u k e)
+      by_product (first_values k (λ i. r.zero) ++ u) u (monomial r r.one k) (canonical_behind r k u h.closed.zero_in pos c) e (power_elems k) (shift_coeff u k e)
       ∙ ap (poly_mul r u) (sym (power_is k))
 
   -- zero times a power of the letter

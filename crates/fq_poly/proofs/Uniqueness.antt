@@ -11,11 +11,6 @@ use Rattle.fq_poly.specs.Poly.{poly_mul, poly_ops}
 use Rattle.fq_poly.specs.Laws.{DivisionIsUnique}
 use Rattle.fq_poly.proofs.Tops.{degrees}
 
-module _ {E : Type 0} (r : RingOps E) where
-  length-difference : (s t : List E) (n : ℕ) → length s < n → length t < n → length (list_add r t (list_neg r s)) < n
-  length-difference s t n l m =
-      omega (arith, length-neg r s, length-add r t (list_neg r s))
-
 module _ {E : Type 0} (r : RingOps E) (inv : E → Option E) (k : IsField r inv) where
   abbrev ring : RingOn (Element (poly_ops r))
   ring = elements (poly_ring r k.ring k.one_ne_zero)
@@ -36,17 +31,11 @@ module _ {E : Type 0} (r : RingOps E) (inv : E → Option E) (k : IsField r inv)
       let two : Element (poly_ops r) = (d, q.quotient) in
       let left : Element (poly_ops r) = (rest, p.remainder) in
       let right : Element (poly_ops r) = (other, q.remainder) in
-      let sums : ring.add (ring.mul one divisor) left ≡ ring.add (ring.mul two divisor) right =
-      same_element (poly_ops r) _ _ (sym p.sum ∙ q.sum) in
+      let sums = same_element (poly_ops r) (ring.add (ring.mul one divisor) left) (ring.add (ring.mul two divisor) right) (sym p.sum ∙ q.sum) in
       let apart : Element (poly_ops r) = ring.add one (ring.neg two) in
-      let multiple = difference ring divisor one two left right sums in
-      let none : apart ≡ ring.zero =
-      same_element (poly_ops r) apart ring.zero
-      (nil_from_length apart.0
-      (no_multiple b apart.0 (list_add r other (list_neg r rest)) cb apart.1 (ap (λ x. x.0) multiple)
-      (length-difference r rest other (length b) p.lower q.lower))) in
-      let quotients : one ≡ two = minus_same ring one two none in
-      let rests : left ≡ right =
-      add_cancel ring (ring.mul two divisor) left right
-      (ap (λ x. ring.add (ring.mul x divisor) left) (sym quotients) ∙ sums) in
-      (ap (λ x. x.0) quotients, ap (λ x. x.0) rests)
+      let short : length (list_add r other (list_neg r rest)) < length b = omega (arith, length-neg r rest, length-add r other (list_neg r rest), p.lower, q.lower) in
+      let quotients : one ≡ two =
+      minus_same ring one two
+      (same_element (poly_ops r) apart ring.zero
+      (nil_from_length apart.0 (no_multiple b apart.0 _ cb apart.1 (ap (λ x. x.0) (difference ring divisor one two left right sums)) short))) in
+      (ap (λ x. x.0) quotients, ap (λ x. x.0) (add_cancel ring (ring.mul two divisor) left right (ap (λ x. ring.add (ring.mul x divisor) left) (sym quotients) ∙ sums)))

@@ -25,22 +25,15 @@ clear_places-requires-clause-zeros g c =
 pub returns : goal.returns
 returns g c =
     let r = g.F.Field.ops c.args.field.now in
-    let places = c.saturating_sub-places.result in
+    let field = g.met.F.Field.laws c.args.field.now in
     let rest = c.in_ok-rest.rest in
     let quotient = c.in_ok-quotient.quotient in
-    let cleared = c.clear_places.new.rest in
-    let written = c.clear_places.new.quotient in
-    let old : c.deref_mut.result.now ≡ c.args.a.now = c.deref_mut.ensures.value ∙ c.in_ok-rest.ensures in
-    let rest_lent : length c.deref_mut.result.now ≡ length rest.items = ap length c.deref_mut.ensures.value in
-    let quotient_lent : length c.deref_mut-2.result.now ≡ length quotient.items = ap length c.deref_mut-2.ensures.value in
-    let rest_count : length rest.items ≡ rest.len = omega (arith, rest.ok.0) in
-    let quotient_count : length quotient.items ≡ quotient.len = omega (arith, quotient.ok.0) in
-    let rest_kept : length cleared ≡ rest.len = omega arith in
-    let quotient_kept : length written ≡ quotient.len = omega arith in
-    let field = g.met.F.Field.laws c.args.field.now in
-    division_done r field.ring field.one_ne_zero c.args.a.now c.args.b.now written cleared _ _
+    division_done r field.ring field.one_ne_zero c.args.a.now _ _ _ _ _
     c.requires.dividend c.clear_places.ensures.quotient c.clear_places.ensures.rest c.requires.nonzero
-    (ap (trim r) (sym old) ∙ c.clear_places.ensures.sum)
+    (rw (c.deref_mut.ensures.value, c.in_ok-rest.ensures) at c.clear_places.ensures.sum)
     c.clear_places.ensures.cleared
-    (c.trimmed.ensures.value ∙ ap (trim r) (whole_written quotient.len written quotient.items quotient_kept quotient_count))
-    (c.trimmed-2.ensures.value ∙ ap (trim r) (whole_written rest.len cleared rest.items rest_kept rest_count))
+    (c.trimmed.ensures.value
+    ∙ ap (trim r)
+    (whole_written quotient.len c.clear_places.new.quotient quotient.items (omega (arith, quotient.ok.0, ap length c.deref_mut-2.ensures.value)) (omega (arith, quotient.ok.0))))
+    (c.trimmed-2.ensures.value
+    ∙ ap (trim r) (whole_written rest.len c.clear_places.new.rest rest.items (omega (arith, rest.ok.0, ap length c.deref_mut.ensures.value)) (omega (arith, rest.ok.0))))

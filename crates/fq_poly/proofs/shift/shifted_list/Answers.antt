@@ -18,20 +18,15 @@ returns-then-is_empty-clause-value g c =
 
 pub returns-clause-value : goal.returns-clause-value
 returns-clause-value g c =
-    let r = g.F.Field.ops c.args.field.now in
     let field = g.met.F.Field.laws c.args.field.now in
     let list = c.args.list.now in
-    let some = eqb-false (length list) 0 (sym c.is_empty.ensures ∙ c.if-is_empty.false) in
-    let pos : 0 < length list = omega arith in
-    let behind = c.in_ok-extend_from_slice.ensures.items ∙ ap (λ u. u ++ list) c.in_ok-coeffs.ensures.value in
-    behind ∙ shift_is r field.ring field.one_ne_zero list c.args.k c.requires pos
+    c.in_ok-extend_from_slice.ensures.items ∙ ap (λ u. u ++ list) c.in_ok-coeffs.ensures.value
+    ∙ shift_is _ field.ring field.one_ne_zero list c.args.k c.requires (omega (arith, eqb-false (length list) 0 (sym c.is_empty.ensures ∙ c.if-is_empty.false)))
 
 pub returns-clause-elem : goal.returns-clause-elem
 returns-clause-elem g c =
     let r = g.F.Field.ops c.args.field.now in
-    let field = g.met.F.Field.laws c.args.field.now in
     let list = c.args.list.now in
-    let some = eqb-false (length list) 0 (sym c.is_empty.ensures ∙ c.if-is_empty.false) in
-    let pos : 0 < length list = omega arith in
-    let behind = c.in_ok-extend_from_slice.ensures.items ∙ ap (λ u. u ++ list) c.in_ok-coeffs.ensures.value in
-    ap (is_canonical r) behind ∙ canonical_behind r c.args.k list field.ring.closed.zero_in pos c.requires
+    ap (is_canonical r) (c.in_ok-extend_from_slice.ensures.items ∙ ap (λ u. u ++ list) c.in_ok-coeffs.ensures.value)
+    ∙ canonical_behind r c.args.k list (g.met.F.Field.laws c.args.field.now).ring.closed.zero_in
+    (omega (arith, eqb-false (length list) 0 (sym c.is_empty.ensures ∙ c.if-is_empty.false))) c.requires
