@@ -9,7 +9,7 @@ use Rattle.ring_core.specs.Twisted.{twisted_ops}
 use Rattle.ring_core.specs.Monomial.{tau_power}
 use Rattle.ring_core.proofs.Carrier.{same_element}
 use Rattle.ring_core.proofs.Coefficients.{same_coeffs}
-use Rattle.ring_core.proofs.Twist.{IsTwist, frob_round}
+use Rattle.ring_core.proofs.Twist.{frob_round}
 use Rattle.ring_core.proofs.ListRing.{coeff-mul}
 use Rattle.ring_core.proofs.Monomial.{monomial_in, monomial_product, monomial_product_below, product_monomial, product_monomial_below}
 use Rattle.flat_modules.proofs.Shift.{shift, shift_is}

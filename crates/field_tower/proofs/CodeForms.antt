@@ -1,5 +1,5 @@
 -- The ring of the codes of which tables are made, and sums of codes that need no digits.
-use Rattle.std.proofs.Common.{◌≡◌, ℕ, suc, ◌-◌, ◌^◌, ◌<◌, ◌≤◌, length, slice_index, bit_xor, sym, ap, ap₂, subst, ◌∙◌, arith, lt-ltb, ltb-true}
+use Rattle.std.proofs.Common.{◌≡◌, ℕ, suc, ◌-◌, ◌^◌, ◌<◌, ◌≤◌, length, slice_index, bit_xor, sym, ap, subst, ◌∙◌, arith, lt-ltb, ltb-true}
 use Rattle.ring_core.specs.Ring.{IsElem, IsRing}
 use Rattle.residue_field.specs.Base.{base_ops}
 use Rattle.residue_field.proofs.BaseLaws.{IsBaseShape, shape_ring}

@@ -1,5 +1,5 @@
 -- Pairs of codes, from pairs of residues in places.
-use Rattle.std.proofs.Common.{◌≡◌, ℕ, suc, ◌-◌, ◌^◌, ◌<◌, ◌≤◌, true, List, length, slice_index, ap, sym, subst, ◌∙◌, arith}
+use Rattle.std.proofs.Common.{◌≡◌, ℕ, suc, ◌-◌, ◌<◌, List, length, slice_index, ap, sym, subst, ◌∙◌, arith}
 use Rattle.ring_core.specs.Ring.{IsRing}
 use Rattle.ring_core.specs.Coeffs.{coeff}
 use Rattle.finite_ring.specs.Finite.{HasNoPair}

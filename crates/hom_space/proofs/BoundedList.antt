@@ -1,5 +1,5 @@
 -- The echelon basis of the rows of homomorphisms up to a degree, read as twisted polynomials, is the bounded list.
-use Rattle.std.proofs.Common.{◌≡◌, ℕ, ◌+◌, ◌-◌, ◌*◌, ◌<◌, ◌≤◌, ◌↔◌, true, List, [], length, refl, sym, ◌∙◌, ap, subst, eq-eqb, arith}
+use Rattle.std.proofs.Common.{◌≡◌, ℕ, ◌+◌, ◌-◌, ◌*◌, ◌<◌, ◌≤◌, ◌↔◌, true, List, [], length, sym, ◌∙◌, ap, subst, eq-eqb, arith}
 use Rattle.std.proofs.Math.Nat.{mul-le-mul_right}
 use Rattle.std.proofs.lemmas.Bool.{and_from}
 use Rattle.ring_core.specs.Ring.{RingOps}
@@ -18,7 +18,7 @@ use Rattle.fq_linear.proofs.Leads.{lead_is, lead_above}
 use Rattle.fq_linear.proofs.Solutions.{same_basis, only_combination}
 use Rattle.central_coords.specs.Coordinates.{coordinate, coordinate_row}
 use Rattle.central_coords.proofs.Expand.{sum_of, sum_coordinate}
-use Rattle.central_coords.proofs.Places.{Extension, Polys, polys, scalars, at, up, unit_at_place, coordinates, coordinate_in, coordinate_past, elems_of}
+use Rattle.central_coords.proofs.Places.{Extension, Polys, polys, at, up, coordinates, coordinate_in, coordinate_past, elems_of}
 use Rattle.hom_space.specs.Bounded.{IsMember, combination_of, IsOneCombination, IsBoundedList}
 use Rattle.hom_space.specs.steps.Reading.{AreReadRows}
 use Rattle.hom_space.proofs.HomRows.{IsRow, IsMapRows, all_canonical, one_reading, told, short_past, members, hom_as, hom_of_row, hom_combined, hom_relation, echelon_as}

@@ -1,5 +1,5 @@
 -- The standard basis of the flat rows of homomorphisms, read as twisted polynomials, is the full list.
-use Rattle.std.proofs.Common.{◌≡◌, ℕ, ◌+◌, ◌-◌, ◌*◌, ◌%◌, ◌<◌, ◌≤◌, ◌↔◌, true, cond, nat_lt, List, [], length, sym, ◌∙◌, ap, ap₂, subst, arith}
+use Rattle.std.proofs.Common.{◌≡◌, ℕ, ◌+◌, ◌-◌, ◌*◌, ◌%◌, ◌<◌, ◌↔◌, true, cond, nat_lt, List, [], length, sym, ◌∙◌, ap, subst, arith}
 use Rattle.std.proofs.lemmas.Bool.{and_parts}
 use Rattle.ring_core.specs.Ring.{RingOps}
 use Rattle.ring_core.specs.Field.{FrobOps}
@@ -18,14 +18,13 @@ use Rattle.fq_linear.proofs.Leads.{lead_is}
 use Rattle.flat_modules.specs.Flat.{are_flat, shifted, times, combination, lead_at, IsRelationOf, IsOnlyCombination, IsStandard, IsStandardBasis}
 use Rattle.flat_modules.proofs.Lists.{flat_at, shift_value}
 use Rattle.flat_modules.proofs.OneBasis.{one_standard}
-use Rattle.flat_modules.proofs.Shift.{shift}
 use Rattle.central_coords.specs.Coordinates.{coordinate}
 use Rattle.central_coords.proofs.Expand.{image_total, sum_of, sum_coordinate}
-use Rattle.central_coords.proofs.Places.{Extension, Polys, polys, scalars, at, up, unit_at_place, coordinates, coordinate_in, coordinate_past, elems_of}
+use Rattle.central_coords.proofs.Places.{Extension, Polys, polys, scalars, at, up, coordinates, coordinate_in, coordinate_past, elems_of}
 use Rattle.central_coords.proofs.Raised.{letter, moves}
 use Rattle.central_coords.proofs.Blocks.{flat_values}
 use Rattle.morphism.specs.Homomorphism.{IsHomomorphism}
-use Rattle.hom_space.specs.Full.{at_degree_power, full_combination, IsOnlyFullCombination, IsFullList}
+use Rattle.hom_space.specs.Full.{full_combination, IsOnlyFullCombination, IsFullList}
 use Rattle.hom_space.specs.steps.Reading.{AreReadRows}
 use Rattle.hom_space.proofs.HomRows.{IsRow, IsMapRows, square, wide, all_canonical, one_reading, told, members, hom_of_row, hom_flat_relation}
 

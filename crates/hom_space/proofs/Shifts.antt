@@ -6,7 +6,7 @@ use Rattle.std.proofs.lemmas.List.{get_or_append_left, get_or-append-add, length
 use Rattle.std.proofs.lemmas.Bool.{and_parts, and_from, cases_lt, cond_both}
 use Rattle.ring_core.specs.Ring.{RingOps, IsElem}
 use Rattle.ring_core.specs.Field.{FrobOps}
-use Rattle.ring_core.specs.Coeffs.{coeff, are_elems, is_canonical, trim, first_values}
+use Rattle.ring_core.specs.Coeffs.{coeff, are_elems, trim, first_values}
 use Rattle.ring_core.proofs.Carrier.{RingOn, Element, same_element, zero_mul, mul_zero}
 use Rattle.ring_core.proofs.Coefficients.{elem_read, coeff_past, coeff-first_values, canonical-trim, coeff-trim, elems-first_values}
 use Rattle.ring_core.proofs.FirstValues.{length-first_values, at-first_values}

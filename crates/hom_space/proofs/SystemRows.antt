@@ -5,7 +5,7 @@ use Rattle.std.proofs.lemmas.Nat.{div-mul-add, mod-mul-add}
 use Rattle.std.proofs.lemmas.Bool.{and_parts, and_from, cases_lt}
 use Rattle.ring_core.specs.Ring.{RingOps, IsElem}
 use Rattle.ring_core.specs.Field.{FrobOps}
-use Rattle.ring_core.specs.Coeffs.{coeff, are_elems, is_canonical, trim, first_values}
+use Rattle.ring_core.specs.Coeffs.{coeff, are_elems, trim, first_values}
 use Rattle.ring_core.specs.Monomial.{monomial}
 use Rattle.ring_core.proofs.Carrier.{elements}
 use Rattle.ring_core.proofs.Coefficients.{elem_read, coeff_past, coeff-first_values, elems-first_values, canonical-trim, coeff-trim}

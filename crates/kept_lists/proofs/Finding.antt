@@ -4,7 +4,7 @@ use Rattle.std.proofs.lemmas.Bool.{and_parts}
 use Rattle.std.proofs.lemmas.List.Elements.{All-get_or, All-same}
 use Rattle.ring_core.specs.Ring.{RingOps}
 use Rattle.ring_core.specs.Field.{IsField, FrobOps}
-use Rattle.ring_core.specs.Coeffs.{are_elems, same_lists}
+use Rattle.ring_core.specs.Coeffs.{are_elems}
 use Rattle.ring_core.proofs.Coefficients.{same_lists-eq}
 use Rattle.drinfeld_mod.specs.Module.{IsModule, constant_of}
 use Rattle.hom_space.specs.Full.{IsFullList}

@@ -1,5 +1,5 @@
 -- A pair of modules whose full list is kept.
-use Rattle.std.proofs.Common.{◌≡◌, ◌||◌, true, false, Option, List, [], ◌∷◌, ◌++◌, if◌then◌else◌, ⊎_elim, ap, sym}
+use Rattle.std.proofs.Common.{◌≡◌, true, false, Option, List, [], ◌∷◌, ◌++◌, if◌then◌else◌, ⊎_elim, ap, sym}
 use Rattle.std.proofs.lemmas.Bool.{false≢true, or_cases}
 use Rattle.std.proofs.lemmas.List.Elements.{All-head, All-tail}
 use Rattle.ring_core.specs.Ring.{RingOps}

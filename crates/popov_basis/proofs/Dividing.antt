@@ -1,14 +1,14 @@
 -- Division with remainder: the combination and the rest keep their sum.
-use Rattle.std.proofs.Common.{◌≡◌, ◌≢◌, ℕ, zero, suc, ◌+◌, ◌-◌, ◌*◌, ◌/◌, ◌%◌, ◌<◌, ◌≤◌, inl, inr, true, Option, Some, None, List, [], ◌∷◌, length, set, cond, nat_lt, refl, sym, ◌∙◌, ap, ap₂, arith, eq-eqb, ne_eqb, le-ltb, ltb-true, ltb-false}
+use Rattle.std.proofs.Common.{◌≡◌, ◌≢◌, ℕ, zero, suc, ◌+◌, ◌-◌, ◌*◌, ◌/◌, ◌%◌, ◌<◌, ◌≤◌, inl, inr, true, Option, Some, None, List, [], ◌∷◌, length, cond, nat_lt, refl, sym, ◌∙◌, ap, ap₂, arith, eq-eqb, ne_eqb, le-ltb, ltb-true, ltb-false}
 use Rattle.std.proofs.lemmas.Bool.{cond_both}
-use Rattle.std.proofs.lemmas.Nat.{div-add-mod', div-mul-add, mod-mul-add, le-div}
+use Rattle.std.proofs.lemmas.Nat.{div-add-mod', div-mul-add, mod-mul-add}
 use Rattle.ring_core.specs.Ring.{RingOps, IsElem, IsRing}
 use Rattle.ring_core.specs.Coeffs.{coeff, are_elems, is_canonical}
 use Rattle.ring_core.proofs.Carrier.{RingOn, Element, elements, same_element, add_times_zero, neg_mul}
 use Rattle.ring_core.proofs.Coefficients.{coeff_past, elem_read}
 use Rattle.ring_core.proofs.Twist.{sum_of_zeros}
 use Rattle.linear_algebra.specs.Linear.{row_at, entry}
-use Rattle.linear_algebra.proofs.Sums.{combine, combine_same, combine_add, combine_scale, unit_combine, unit, unit_same, unit_other, total_same, by_bool, same_or_other}
+use Rattle.linear_algebra.proofs.Sums.{combine, combine_same, combine_add, combine_scale, unit_combine, unit, unit_same, unit_other, by_bool, same_or_other}
 use Rattle.linear_algebra.proofs.Lift.{rows_of}
 use Rattle.flat_modules.specs.Flat.{are_flat, lead_at, shifted, times, combination, unit_at, IsStandard, IsNormal}
 use Rattle.flat_modules.proofs.Lists.{flat_in, longest, listed, combination_room, combination_value, shift_value}

@@ -9,8 +9,7 @@ use Rattle.ring_core.specs.Coeffs.{coeff, is_canonical, is_trimmed, are_elems, l
 use Rattle.ring_core.proofs.Coefficients.{coeff_past, elem_read, coeff-list_of, canonical-list_of}
 use Rattle.ring_core.proofs.FirstValues.{length-first_values, at-first_values}
 use Rattle.ring_core.proofs.Terms.{times_zero}
-use Rattle.linear_algebra.specs.Linear.{row_at, entry, is_row, are_rows}
-use Rattle.linear_algebra.proofs.RowLists.{rows_by_places}
+use Rattle.linear_algebra.specs.Linear.{row_at, entry, are_rows}
 use Rattle.linear_algebra.proofs.Sums.{by_bool, same_or_other}
 use Rattle.linear_algebra.proofs.Echelon.{find_place}
 use Rattle.flat_modules.specs.Flat.{are_flat, lead_at, unit_at, zero_rows, IsBasis, IsInModule, IsRelationOf, IsStandardBasis}
@@ -20,7 +19,7 @@ use Rattle.flat_reduce.proofs.KernelBasis.{kernel_basis}
 use Rattle.flat_reduce.proofs.Pushed.{free_len, not_free, flat_push}
 use Rattle.flat_reduce.proofs.RowSteps.{inverse_of}
 use Rattle.flat_reduce.proofs.Settling.{some_same, set_here, set_apart, empty_row}
-use Rattle.poly_reduce.specs.Matrices.{member, StandFor, IsInRows}
+use Rattle.poly_reduce.specs.Matrices.{IsInRows}
 use Rattle.poly_reduce.proofs.Views.{p}
 use Rattle.poly_reduce.proofs.Stands.{rows_exist, flats_exist}
 use Rattle.popov_basis.specs.StandardRows.{IsStandardRowBasis}

@@ -13,7 +13,6 @@ use Rattle.flat_modules.specs.Flat.{are_flat, IsBasis, IsStandardBasis, IsInModu
 use Rattle.flat_modules.proofs.Lists.{flat_at, flat_in, longest, to_reached}
 use Rattle.flat_modules.proofs.Shift.{powers, shift_zero}
 use Rattle.flat_modules.proofs.Product.{flat_assoc}
-use Rattle.flat_modules.proofs.Unique.{Reached}
 use Rattle.flat_modules.proofs.Module.{past_rows}
 use Rattle.flat_reduce.proofs.KernelRows.{times_bound}
 use Rattle.flat_reduce.proofs.Settling.{empty_row}
@@ -73,9 +72,9 @@ module _ {E : Type 0} (r : RingOps E) (h : IsRing r) (w : ℕ) where
         let y = to_reached r h n found s.by basis.shape s.polys x xi s.is in
         let big = y.bound * n + len + length x in
         let fits : (k : ℕ) → k < y.bound → k / count * n + len ≤ big = λ k b.
-            let d = div-le_self k count in
-            let m = mul-le-mul_right {m = k / count} {n = y.bound} n (omega (arith, d, b)) in
-            omega (arith, m)
+        let d = div-le_self k count in
+        let m = mul-le-mul_right {m = k / count} {n = y.bound} n (omega (arith, d, b)) in
+        omega (arith, m)
         in
         record {
           none = λ e. absurd (let v = ap length e in omega (arith, v, posn));

@@ -1,10 +1,10 @@
 -- Rows that came about by turns reach the same rows as before, and are reached by them.
-use Rattle.std.proofs.Common.{◌≡◌, ◌≢◌, ℕ, suc, ◌*◌, ◌/◌, ◌%◌, ◌<◌, ◌≤◌, inl, inr, List, length, refl, sym, ◌∙◌, ap, ap₂, arith}
+use Rattle.std.proofs.Common.{◌≡◌, ◌≢◌, ℕ, suc, ◌*◌, ◌<◌, ◌≤◌, inl, inr, List, length, refl, sym, ◌∙◌, ap, ap₂, arith}
 use Rattle.ring_core.specs.Ring.{RingOps, IsElem, IsRing}
 use Rattle.ring_core.proofs.Carrier.{RingOn, Element, elements, same_element, add_zero, neg_mul}
 use Rattle.ring_core.proofs.Coefficients.{coeff_past}
 use Rattle.linear_algebra.specs.Linear.{row_at, entry}
-use Rattle.linear_algebra.proofs.Sums.{total_same, same_or_other}
+use Rattle.linear_algebra.proofs.Sums.{same_or_other}
 use Rattle.linear_algebra.proofs.Lift.{AllIn, rows_of}
 use Rattle.flat_modules.proofs.Lists.{shift_value}
 use Rattle.flat_modules.proofs.Shift.{shift, shift_same}

@@ -1,5 +1,4 @@
 use Rattle.std.proofs.Common.{◌≡◌, ◌*◌, ◌/◌, ◌%◌, length, ap, ap₂, ◌∙◌, arith}
-use Rattle.std.proofs.lemmas.Bool.{and_parts}
 use Rattle.ring_core.specs.Coeffs.{coeff, are_elems, first_values}
 use Rattle.ring_core.proofs.Coefficients.{elems-first_values}
 use Rattle.linear_algebra.specs.Linear.{row_at}

@@ -1,4 +1,4 @@
-use Rattle.std.proofs.Common.{◌≡◌, length, refl, sym, ap, ◌∙◌, arith}
+use Rattle.std.proofs.Common.{◌≡◌, length, refl, ap, ◌∙◌, arith}
 use Rattle.ring_core.specs.Coeffs.{coeff, trim}
 use Rattle.ring_core.proofs.Coefficients.{coeff-first_values}
 use Rattle.ring_core.proofs.RowSteps.{whole_written}
