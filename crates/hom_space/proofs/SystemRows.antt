@@ -18,7 +18,7 @@ use Rattle.linear_algebra.specs.Linear.{row_at, is_row, are_rows, IsRelation, Is
 use Rattle.linear_algebra.proofs.RowLists.{row_elems, rows_at, rows_by_places}
 use Rattle.flat_modules.specs.Flat.{are_flat, shifted, IsRelationOf, IsStandardBasis}
 use Rattle.flat_modules.proofs.Lists.{flat_at, row_past}
-use Rattle.flat_reduce.proofs.KernelRows.{flat_first}
+use Rattle.flat_modules.proofs.Lists.{flat_first}
 use Rattle.fq_linear.proofs.Exists.{relations_exist}
 use Rattle.popov_basis.proofs.Exists.{relations_exist as standard_relations}
 use Rattle.central_coords.specs.Coordinates.{coordinate, coordinate_row}
