@@ -1,3 +1,5 @@
+#![tactic(auto, using(crate::proofs::Fronts::fronts, crate::proofs::Fronts::front_ends))]
+
 ghost use Rattle.std.specs.Prelude.{◌≡◌, ◌≢◌, ℕ, ◌<◌, ◌≤◌, List, [], ◌∷◌, length, Some, IsTrue, ◌↔◌, MatchOption, IfSome, IfNone};
 ghost use Rattle.script_lang.specs.declared.lexer.Letter.{Letter};
 ghost use Rattle.script_lang.specs.declared.lexer.Token.{Token};

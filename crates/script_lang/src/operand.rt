@@ -1,3 +1,5 @@
+#![tactic(auto, using(crate::proofs::Operands::operand_forms, crate::proofs::Operands::operand_ends))]
+
 ghost use Rattle.std.specs.Prelude.{◌≡◌, ℕ, ◌<◌, List, length, IfOk, IfSome, IfNone};
 ghost use Rattle.script_lang.specs.declared.lexer.Token.{Token};
 ghost use Rattle.script_lang.specs.declared.sum.ModArg.{ModArg};

@@ -1,3 +1,5 @@
+#![tactic(auto, using(crate::proofs::Reading::readings, crate::proofs::Reading::reading_ends))]
+
 ghost use Rattle.std.specs.Prelude.{◌≡◌, ℕ, ◌<◌, List, length, IfOk, IfSome, IfNone};
 ghost use Rattle.script_lang.specs.declared.lexer.Token.{Token};
 ghost use Rattle.script_lang.specs.declared.sum.Factor.{Factor};
