@@ -1,5 +1,5 @@
 -- What the readers of numbers, letters and exponents find.
-use Rattle.std.proofs.Common.{◌≡◌, ◌≢◌, ℕ, ◌<◌, ◌≤◌, None, List, [], ◌∷◌, ap, lit<, arith}
+use Rattle.std.proofs.Common.{◌≡◌, ◌≢◌, ℕ, ◌<◌, ◌≤◌, None, List, ◌∷◌, ap, arith}
 use Rattle.script_lang.specs.declared.lexer.Letter.{Letter}
 use Rattle.script_lang.specs.declared.lexer.Sign.TheVariants.{Caret}
 use Rattle.script_lang.specs.declared.lexer.Token.{Token}
@@ -22,4 +22,5 @@ pub letter_refused : (k : Kind) (more rest r : List Token) (l : Letter) (n : ℕ
 letter_refused k more rest r l n f p x a (IsPlain.is_letter q y) b = let e = exponent_once x a y b in cc
 
 pub ruleset fronts = (IsExponent.absent, IsExponent.present, IsPlain.is_number, IsPlain.is_letter, IsEnding.is_ending)
+
 pub ruleset front_ends = (no_caret, ending_binds, letter_refused)

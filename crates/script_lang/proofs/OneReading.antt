@@ -1,5 +1,5 @@
 -- Tokens have one reading as a sum of a kind, where what is left doesn't bind on.
-use Rattle.std.proofs.Common.{◌≡◌, ℕ, ◌<◌, Bool, true, false, Some, List, [], ◌∷◌, refl, sym, ap, ◌∙◌, lit<, arith, rules}
+use Rattle.std.proofs.Common.{◌≡◌, ℕ, ◌<◌, Bool, Some, List, ◌∷◌, refl, sym, ap, ◌∙◌, lit<, arith, rules}
 use Rattle.std.proofs.lemmas.Grind.{common_steps}
 use Rattle.script_lang.specs.declared.lexer.Letter.{Letter}
 use Rattle.script_lang.specs.declared.lexer.Sign.TheVariants.{Star, Open, Close}

@@ -1,6 +1,6 @@
 -- Lists and operands: they have one reading, and what their readers find.
 use Rattle.std.proofs.Common.{◌≡◌, ◌≢◌, ℕ, ◌<◌, ◌≤◌, Bool, false, List, [], ◌∷◌, ◌++◌, refl, ap, lit<, append_assoc, arith}
-use Rattle.script_lang.specs.declared.lexer.Sign.TheVariants.{OpenList, CloseList, Comma}
+use Rattle.script_lang.specs.declared.lexer.Sign.TheVariants.{CloseList, Comma}
 use Rattle.script_lang.specs.declared.lexer.Token.{Token}
 use Rattle.script_lang.specs.declared.lexer.Token.TheVariants as token
 use Rattle.script_lang.specs.declared.sum.Kind.{Kind}
@@ -11,9 +11,9 @@ use Rattle.script_lang.specs.declared.sum.Name.{Name}
 use Rattle.script_lang.specs.declared.sum.OreArg.{OreArg}
 use Rattle.script_lang.specs.declared.sum.OreArg.TheVariants as twisted_operand
 use Rattle.script_lang.specs.declared.sum.Sum.{Sum}
-use Rattle.script_lang.specs.Grammar.{deepest, IsLead, IsSum, IsLeadedSum, IsItems, IsList, IsName, IsModOperand, IsOreOperand, binds, Refuses, lead_of, after_lead, twisted_of}
+use Rattle.script_lang.specs.Grammar.{IsLead, IsSum, IsLeadedSum, IsItems, IsList, IsName, IsModOperand, IsOreOperand, binds, Refuses, lead_of, after_lead, twisted_of}
 use Rattle.script_lang.proofs.Equal.{same_tail}
-use Rattle.script_lang.proofs.OneReading.{Fronts, sum_fronts, sum_begins, sum_once, lead_read}
+use Rattle.script_lang.proofs.OneReading.{sum_fronts, sum_begins, sum_once, lead_read}
 use Rattle.script_lang.proofs.Reading.{lead_there}
 
 leaded_once : {k : Kind} {ts r s : List Token} {u v : Sum} → IsLeadedSum k ts r u → binds r < 1 → IsLeadedSum k ts s v → binds s < 1 → (r ≡ s) × (u ≡ v)
@@ -149,4 +149,5 @@ twisted_refused ts r u h g (IsOreOperand.listed {list = xs} y) b = h r (module_o
 twisted_refused ts r u h g (IsOreOperand.summed {s = s} y) b = g r s y b
 
 pub ruleset operand_forms = (IsList.no_items, IsList.has_items, IsName.is_word, IsModOperand.named_module, IsModOperand.listed_module, IsOreOperand.summed)
+
 pub ruleset operand_ends = (items_more, items_end, items_refused, items_unended, leaded_there, leaded_refused, module_as_twisted, twisted_binds, twisted_refused)

@@ -1,5 +1,5 @@
 -- The loops that read terms and factors, and the sums in parentheses.
-use Rattle.std.proofs.Common.{◌≡◌, ◌≢◌, ℕ, zero, suc, ◌-◌, ◌<◌, ◌≤◌, Bool, Some, List, [], ◌∷◌, ◌++◌, length, sym, ap, ◌∙◌, subst, lit<, append_assoc, append-nil, arith}
+use Rattle.std.proofs.Common.{◌≡◌, ◌≢◌, ℕ, zero, suc, ◌-◌, ◌<◌, ◌≤◌, Bool, Some, List, [], ◌∷◌, ◌++◌, length, sym, ap, ◌∙◌, lit<, append_assoc, append-nil, arith}
 use Rattle.script_lang.specs.declared.lexer.Sign.TheVariants.{Star, Open, Close}
 use Rattle.script_lang.specs.declared.lexer.Token.{Token}
 use Rattle.script_lang.specs.declared.lexer.Token.TheVariants as token
@@ -113,4 +113,5 @@ no_power k j d more rest r s f p h y c x b =
     let u = inside k j d more r f p h x b in omega (arith, ap binds (same_tail (sum_once y (lit< tt) u.1 (lit< tt)).0))
 
 pub ruleset readings = (IsFactor.is_plain, factors_more, factors_ended, factors_end, factors_refused, terms_more, terms_end, terms_refused)
+
 pub ruleset reading_ends = (no_star, no_term_sign, group_there, no_inside, no_close, no_power)

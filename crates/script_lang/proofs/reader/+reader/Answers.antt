@@ -1,8 +1,8 @@
-use Rattle.std.proofs.Common.{◌≡◌, ◌++◌, ◌∷◌, [], sym, subst, rules}
+use Rattle.std.proofs.Common.{◌≡◌, ◌++◌, ◌∷◌, [], rules}
 use Rattle.script_lang.specs.declared.lexer.Sign.TheVariants.{Star}
 use Rattle.script_lang.specs.declared.lexer.Token.TheVariants as token
 use Rattle.script_lang.specs.Grammar.{IsFactor, IsProduct, term_of, term_sign}
-use Rattle.script_lang.proofs.Reading.{FactorsSoFar, TermsSoFar, factors_more, factors_refused, terms_more, terms_refused}
+use Rattle.script_lang.proofs.Reading.{factors_more, factors_refused, terms_more, terms_refused}
 use Rattle.script_lang.proofs.reader.+reader.Goals as goal
 
 pub read_product-returns-in_default-read-clause-refused : goal.read_product-returns-in_default-read-clause-refused
