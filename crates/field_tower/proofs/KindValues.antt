@@ -98,51 +98,51 @@ module _ (i : Inside) (n : Base) (same : base_of i ≡ n) where
     binary-neg = binary_negative n here
 
   -- the kind of the sums
-  pub sums_are : (kind : SumKind) → i.sums.kind ≡ kind → AreSumsOf k.p (k.s - 1) q k.modulus i.sums.table.items i.sums.negatives.items kind
-  sums_are kind is = subst (AreSumsOf k.p (k.s - 1) q k.modulus i.sums.table.items i.sums.negatives.items) is i.are_sums
+  pub sums_are : (kind : SumKind) → i.tables.sums.kind ≡ kind → AreSumsOf k.p (k.s - 1) q k.modulus i.tables.sums.table.items i.tables.sums.negatives.items kind
+  sums_are kind is = subst (AreSumsOf k.p (k.s - 1) q k.modulus i.tables.sums.table.items i.tables.sums.negatives.items) is i.are_sums
 
-  module _ (is : i.sums.kind ≡ sum.Tabled) where
-    pub sum_fits : (a b : ℕ) → IsElem (ops_of n) a → IsElem (ops_of n) b → a * q + b < length i.sums.table.items
+  module _ (is : i.tables.sums.kind ≡ sum.Tabled) where
+    pub sum_fits : (a b : ℕ) → IsElem (ops_of n) a → IsElem (ops_of n) b → a * q + b < length i.tables.sums.table.items
     sum_fits a b e d = table_fits q _ _ a b (sums_are sum.Tabled is).0 (below a e) (below b d)
 
-    pub negative_fits : (a : ℕ) → IsElem (ops_of n) a → a < length i.sums.negatives.items
+    pub negative_fits : (a : ℕ) → IsElem (ops_of n) a → a < length i.tables.sums.negatives.items
     negative_fits a e = row_fits q _ _ a (sums_are sum.Tabled is).1 (below a e)
 
-    pub tabled-add : (a b x : ℕ) → IsElem (ops_of n) a → IsElem (ops_of n) b → x ≡ get_or i.sums.table.items (a * q + b) x → x ≡ (ops_of n).add a b
+    pub tabled-add : (a b x : ℕ) → IsElem (ops_of n) a → IsElem (ops_of n) b → x ≡ get_or i.tables.sums.table.items (a * q + b) x → x ≡ (ops_of n).add a b
     tabled-add a b x e d read =
         table-value q _ _ a b x (sums_are sum.Tabled is).0 (below a e) (below b d) read ∙ ap (λ m. (ops_of m).add a b) same
 
-    pub tabled-neg : (a x : ℕ) → IsElem (ops_of n) a → x ≡ get_or i.sums.negatives.items a x → x ≡ (ops_of n).neg a
+    pub tabled-neg : (a x : ℕ) → IsElem (ops_of n) a → x ≡ get_or i.tables.sums.negatives.items a x → x ≡ (ops_of n).neg a
     tabled-neg a x e read =
         row-value q _ _ a x (sums_are sum.Tabled is).1 (below a e) read ∙ ap (λ m. (ops_of m).neg a) same
 
   -- the kind of the products
-  pub products_are : (kind : ProductKind) → i.products.kind ≡ kind → AreProductsOf k.p (k.s - 1) q k.modulus i.products.powers.items i.products.logs.items kind
-  products_are kind is = subst (AreProductsOf k.p (k.s - 1) q k.modulus i.products.powers.items i.products.logs.items) is i.are_products
+  pub products_are : (kind : ProductKind) → i.tables.products.kind ≡ kind → AreProductsOf k.p (k.s - 1) q k.modulus i.tables.products.powers.items i.tables.products.logs.items kind
+  products_are kind is = subst (AreProductsOf k.p (k.s - 1) q k.modulus i.tables.products.powers.items i.tables.products.logs.items) is i.are_products
 
-  module _ (is : i.products.kind ≡ product.Logged) where
-    logs : IsLogTable q (ops_of k).mul i.products.powers.items i.products.logs.items
+  module _ (is : i.tables.products.kind ≡ product.Logged) where
+    logs : IsLogTable q (ops_of k).mul i.tables.products.powers.items i.tables.products.logs.items
     logs = products_are product.Logged is
 
-    pub log_fits : (a : ℕ) → IsElem (ops_of n) a → a < length i.products.logs.items
+    pub log_fits : (a : ℕ) → IsElem (ops_of n) a → a < length i.tables.products.logs.items
     log_fits a e = subst (λ m. a < m) (sym logs.count) (below a e)
 
-    log_read : (a x : ℕ) → IsElem (ops_of n) a → x ≡ get_or i.products.logs.items a x → x ≡ slice_index i.products.logs.items a
-    log_read a x e read = get_or_read i.products.logs.items a x (log_fits a e) read 0
+    log_read : (a x : ℕ) → IsElem (ops_of n) a → x ≡ get_or i.tables.products.logs.items a x → x ≡ slice_index i.tables.products.logs.items a
+    log_read a x e read = get_or_read i.tables.products.logs.items a x (log_fits a e) read 0
 
-    pub power_fits : (a b x y : ℕ) → IsElem (ops_of n) a → IsElem (ops_of n) b → x ≡ get_or i.products.logs.items a x → y ≡ get_or i.products.logs.items b y → x + y < length i.products.powers.items
+    pub power_fits : (a b x y : ℕ) → IsElem (ops_of n) a → IsElem (ops_of n) b → x ≡ get_or i.tables.products.logs.items a x → y ≡ get_or i.tables.products.logs.items b y → x + y < length i.tables.products.powers.items
     power_fits a b x y e d at_a at_b =
-        subst (λ m. m < length i.products.powers.items) (sym (ap₂ ◌+◌ (log_read a x e at_a) (log_read b y d at_b))) (logs.fits a b (below a e) (below b d))
+        subst (λ m. m < length i.tables.products.powers.items) (sym (ap₂ ◌+◌ (log_read a x e at_a) (log_read b y d at_b))) (logs.fits a b (below a e) (below b d))
 
-    pub logged-mul : (a b x y z : ℕ) → IsElem (ops_of n) a → IsElem (ops_of n) b → x ≡ get_or i.products.logs.items a x → y ≡ get_or i.products.logs.items b y
-        → z ≡ get_or i.products.powers.items (x + y) z → z ≡ (ops_of n).mul a b
+    pub logged-mul : (a b x y z : ℕ) → IsElem (ops_of n) a → IsElem (ops_of n) b → x ≡ get_or i.tables.products.logs.items a x → y ≡ get_or i.tables.products.logs.items b y
+        → z ≡ get_or i.tables.products.powers.items (x + y) z → z ≡ (ops_of n).mul a b
     logged-mul a b x y z e d at_a at_b read =
-        get_or_read i.products.powers.items (x + y) z (power_fits a b x y e d at_a at_b) read 0
-        ∙ ap (slice_index i.products.powers.items) (ap₂ ◌+◌ (log_read a x e at_a) (log_read b y d at_b))
+        get_or_read i.tables.products.powers.items (x + y) z (power_fits a b x y e d at_a at_b) read 0
+        ∙ ap (slice_index i.tables.products.powers.items) (ap₂ ◌+◌ (log_read a x e at_a) (log_read b y d at_b))
         ∙ logs.value a b (below a e) (below b d) ∙ ap (λ m. (ops_of m).mul a b) same
 
-    pub log_low : (a x : ℕ) → IsElem (ops_of n) a → 0 < a → x ≡ get_or i.products.logs.items a x → x < q
+    pub log_low : (a x : ℕ) → IsElem (ops_of n) a → 0 < a → x ≡ get_or i.tables.products.logs.items a x → x < q
     log_low a x e some read = subst (λ m. m < q) (sym (log_read a x e read)) (logs.low a some (below a e))
 
-    pub powers_long : q ≤ length i.products.powers.items
+    pub powers_long : q ≤ length i.tables.products.powers.items
     powers_long = logs.long

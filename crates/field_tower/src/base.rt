@@ -17,13 +17,13 @@ ghost use Rattle.field_tower.specs.steps.Parts.{IsFaultOf};
 use super::accept::{find_pair, unit_powers};
 use super::codes::Codes;
 use super::fault::BaseFault;
-use super::logs::{ProductKind, Products, made_products};
+use super::logs::{ProductKind, Products};
 use super::prime::PrimeField;
 use super::remainders::{less_once, remainder};
 use super::residue_ring::Residues;
 use super::row_sums::add_multiple;
 use super::size::{is_listed, size};
-use super::tables::{SumKind, Sums, made_sums};
+use super::tables::{SumKind, Sums, Tables, made_tables};
 use residue_field::Code;
 use ring_core::{Field, NoMemory};
 use std::alloc::Global;
@@ -39,14 +39,13 @@ pub struct BaseField {
     modulus: Vec<Code>,
     // for remainders modulo p without a division
     reciprocal: u64,
-    sums: Sums,
-    products: Products,
+    tables: Tables,
     ghost is_base: { IsBase p s modulus.items },
     ghost count: { q ≡ p ^ s },
     ghost small: { q ≤ CODES },
     ghost reciprocal_is: { reciprocal ≡ 4294967296 / p },
-    ghost are_sums: { AreSums p (s - 1) q modulus.items sums } by { AreSums-prop p (s - 1) q modulus.items sums },
-    ghost are_products: { AreProducts p (s - 1) q modulus.items products } by { AreProducts-prop p (s - 1) q modulus.items products },
+    ghost are_sums: { AreSums p (s - 1) q modulus.items tables.sums } by { AreSums-prop p (s - 1) q modulus.items tables.sums },
+    ghost are_products: { AreProducts p (s - 1) q modulus.items tables.products } by { AreProducts-prop p (s - 1) q modulus.items tables.products },
 }
 
 impl Model for BaseField {
@@ -154,14 +153,14 @@ impl BaseField {
     pub(super) fn sums(&self) -> &Sums
         ensures { let k = self.now in AreSums k.p (k.s - 1) (size_of k) k.modulus result.now }
     {
-        &self.sums
+        &self.tables.sums
     }
 
     /// How the field multiplies.
     pub(super) fn products(&self) -> &Products
         ensures { let k = self.now in AreProducts k.p (k.s - 1) (size_of k) k.modulus result.now }
     {
-        &self.products
+        &self.tables.products
     }
 
     /// The product of two codes.
@@ -171,13 +170,13 @@ impl BaseField {
         ensures value { result ≡ (ops_of self.now).mul a b }
         ensures elem { IsElem (ops_of self.now) result }
     {
-        match self.products.kind {
+        match self.tables.products.kind {
             ProductKind::Modular => {
                 remainder(a as u32 * b as u32, self.p, self.reciprocal) as Code
             }
             ProductKind::Logged => {
-                let logs = &self.products.logs;
-                self.products.powers[logs[a as usize] as usize + logs[b as usize] as usize]
+                let logs = &self.tables.products.logs;
+                self.tables.products.powers[logs[a as usize] as usize + logs[b as usize] as usize]
             }
             ProductKind::Digital => self.codes().product(a as usize, b as usize),
         }
@@ -191,10 +190,10 @@ impl BaseField {
         ensures value { Some result ≡ inverse_of self.now a }
         ensures elem { IsElem (ops_of self.now) result }
     {
-        if let ProductKind::Logged = self.products.kind {
-            let inverse = self.products.powers[self.q
+        if let ProductKind::Logged = self.tables.products.kind {
+            let inverse = self.tables.products.powers[self.q
                 - 1
-                - self.products.logs[a as usize] as usize];
+                - self.tables.products.logs[a as usize] as usize];
             if (inverse as usize) < self.q && self.product(a, inverse) == 1 {
                 return inverse;
             }
@@ -268,10 +267,7 @@ fn make_reduced(
         Ok(Some((a, b))) => return Err(BaseFault::ZeroDivisors { a, b }),
         Err(NoMemory) => return Err(BaseFault::NoMemory),
     }
-    let Ok(sums) = made_sums(alloc, &codes) else {
-        return Err(BaseFault::NoMemory);
-    };
-    let Ok(products) = made_products(alloc, &codes) else {
+    let Ok(tables) = made_tables(alloc, &codes) else {
         return Err(BaseFault::NoMemory);
     };
     Ok(BaseField {
@@ -280,8 +276,7 @@ fn make_reduced(
         q,
         modulus,
         reciprocal: 4294967296 / prime.p as u64,
-        sums,
-        products,
+        tables,
     })
 }
 
@@ -309,19 +304,19 @@ impl Field for BaseField {
     }
 
     fn add(&self, a: Code, b: Code) -> Code {
-        match self.sums.kind {
+        match self.tables.sums.kind {
             SumKind::Modular => less_once(a as u32 + b as u32, self.p) as Code,
             SumKind::Binary => a ^ b,
-            SumKind::Tabled => self.sums.table[a as usize * self.q + b as usize],
+            SumKind::Tabled => self.tables.sums.table[a as usize * self.q + b as usize],
             SumKind::Digital => self.codes().sum(a as usize, b as usize),
         }
     }
 
     fn neg(&self, a: Code) -> Code {
-        match self.sums.kind {
+        match self.tables.sums.kind {
             SumKind::Modular => less_once(self.p - a as u32, self.p) as Code,
             SumKind::Binary => a,
-            SumKind::Tabled => self.sums.negatives[a as usize],
+            SumKind::Tabled => self.tables.sums.negatives[a as usize],
             SumKind::Digital => self.codes().negative(a as usize),
         }
     }

@@ -1,11 +1,12 @@
-//! How a base field adds, with the tables that it needs.
+//! How a base field computes, with the tables that it needs.
 
 ghost use Rattle.std.specs.Prelude.{◌≡◌, ◌-◌, ◌+◌, ◌*◌, ◌<◌, IfOk, IfSome, OnOk, length};
 ghost use Rattle.field_tower.specs.steps.Codes.{code_ops, first_sums};
 ghost use Rattle.field_tower.specs.steps.Tables.{IsRest, IsRow, IsTable};
-ghost use Rattle.field_tower.specs.steps.Kinds.{AreSums};
+ghost use Rattle.field_tower.specs.steps.Kinds.{AreProducts, AreSums};
 
 use super::codes::Codes;
+use super::logs::{Products, made_products};
 use residue_field::Code;
 use ring_core::NoMemory;
 use std::alloc::Global;
@@ -33,6 +34,13 @@ pub(crate) struct Sums {
     // the sum of `a` and `b` at `a q + b`
     pub(crate) table: Vec<Code>,
     pub(crate) negatives: Vec<Code>,
+}
+
+/// How a base field computes, with its tables.
+#[derive(Drop)]
+pub(crate) struct Tables {
+    pub(crate) sums: Sums,
+    pub(crate) products: Products,
 }
 
 /// The sum of the codes `a` and `b`, where `table` holds those of the codes below `a`: that of `rest` and of the sum of `place` and `b`, where `a` is
@@ -108,7 +116,7 @@ fn without_tables(alloc: Global, kind: SumKind) -> Sums
 }
 
 /// How the base field of these codes adds.
-pub(crate) fn made_sums(alloc: Global, codes: &Codes) -> Result<Sums, NoMemory>
+fn made_sums(alloc: Global, codes: &Codes) -> Result<Sums, NoMemory>
     ensures { let k = codes.now in IfOk result (AreSums k.prime.p (length k.modulus.now - 2) k.q k.modulus.now) }
 {
     if codes.modulus.len() == 2 {
@@ -127,4 +135,14 @@ pub(crate) fn made_sums(alloc: Global, codes: &Codes) -> Result<Sums, NoMemory>
         table,
         negatives,
     })
+}
+
+/// How the base field of these codes computes.
+pub(crate) fn made_tables(alloc: Global, codes: &Codes) -> Result<Tables, NoMemory>
+    ensures sums { let k = codes.now in IfOk result (λ t. AreSums k.prime.p (length k.modulus.now - 2) k.q k.modulus.now t.sums) }
+    ensures products { let k = codes.now in IfOk result (λ t. AreProducts k.prime.p (length k.modulus.now - 2) k.q k.modulus.now t.products) }
+{
+    let sums = made_sums(alloc, codes)?;
+    let products = made_products(alloc, codes)?;
+    Ok(Tables { sums, products })
 }

@@ -33,6 +33,7 @@ invariant_of-result c =
       top = c.requires.monic;
       no_pair = no_pair;
     } in
-    let sums = moved (λ n u. AreSums p n q u c.in-Ok.sums) _ modulus s c.deref.ensures.value c.requires.members c.in-Ok.ensures in
-    let products = moved (λ n u. AreProducts p n q u c.in-Ok-made_products.products) _ modulus s c.deref.ensures.value c.requires.members c.in-Ok-made_products.ensures in
+    let tables = c.in-Ok.tables in
+    let sums = moved (λ n u. AreSums p n q u tables.sums) _ modulus s c.deref.ensures.value c.requires.members c.in-Ok.ensures.sums in
+    let products = moved (λ n u. AreProducts p n q u tables.products) _ modulus s c.deref.ensures.value c.requires.members c.in-Ok.ensures.products in
     (is_base, (c.requires.count, (c.requires.small, (refl, (sums, (products, tt))))))

@@ -29,7 +29,7 @@ index-inverse-requires c =
     let n = c.args.self.now in
     let large = two_codes i n c.self.view_is in
     let long = powers_long i n c.self.view_is c.in-Logged.is in
-    let fits : i.q - 1 - c.index.result.now < length i.products.powers.items = omega (arith, large, long) in
+    let fits : i.q - 1 - c.index.result.now < length i.tables.products.powers.items = omega (arith, large, long) in
     search (rules, fits)
 
 pub product-requires-clause-right : goal.product-requires-clause-right
